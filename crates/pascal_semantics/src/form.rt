@@ -1,0 +1,26 @@
+//! The own forms of the statements that are built.
+
+/// An operand.
+#[derive(Clone, Copy, Debug, PartialEq, Eq)]
+pub enum Operand {
+    /// The global word of this number, below 4,096.
+    Global(u16),
+    /// A number up to 32,767.
+    Number(u16),
+}
+
+/// One operand, or the sum of two.
+#[derive(Clone, Copy, Debug, PartialEq, Eq)]
+pub struct Sum {
+    pub first: Operand,
+    pub second: Option<Operand>,
+}
+
+/// The own form of a statement, its variables resolved to global words.
+#[derive(Clone, Copy, Debug, PartialEq, Eq)]
+pub enum SimpleForm {
+    /// The value goes to the global word of this number, below 4,096.
+    Assign(u16, Sum),
+    /// `writeln` of the value, in this width of 1 to 255 characters, or else in 8.
+    WriteLine(Sum, Option<u8>),
+}
