@@ -1,0 +1,4 @@
+pub mod Laws
+pub mod Same
+pub mod Written
+pub mod Put

@@ -1,0 +1,121 @@
+//! Instructions read from words.
+
+ghost use Rattle.std.specs.Prelude.{◌≡◌, ℕ, ◌<◌, ◌≤◌, List, length, take, IfSome};
+ghost use Rattle.pdp11_code.specs.Code.{shape_at, wants_next, ea_at, read_as, decoded};
+ghost use Rattle.pdp11_code.specs.Write.{IsInstr, encoded};
+
+use crate::instr::{Ea, Instr};
+use crate::table::{ROWS, Shape};
+
+/// The instruction that begins the words, and the number of its words, 1 to 3. None exactly where no instruction
+/// of a built row begins there, or its words end early.
+pub fn decode(words: &[u16]) -> Option<(Instr, usize)>
+    ensures reads { result ≡ decoded words.now }
+    ensures listed { IfSome result (λ read. IsInstr read.0) }
+    ensures number { IfSome result (λ read. read.1 ≡ length (encoded read.0)) }
+    ensures written { IfSome result (λ read. encoded read.0 ≡ take read.1 words.now) }
+{
+    instruction(words)
+}
+
+fn instruction(words: &[u16]) -> Option<(Instr, usize)>
+    ensures { result ≡ decoded words.now }
+{
+    let word = *words.first()?;
+    match shape_of(word)? {
+        Shape::DoubleOperand => double_operand(word, words),
+        Shape::SingleOperand => single_operand(word, words),
+        Shape::RegisterOperand => register_operand(word, words),
+        Shape::JumpToSubroutine => jump_to_subroutine(word, words),
+        Shape::ReturnFromSubroutine => Some((Instr::Rts((word % 8) as u8), 1)),
+        Shape::SubtractOneAndBranch => {
+            Some((Instr::Sob((word / 64 % 8) as u8, (word % 64) as u8), 1))
+        }
+        Shape::BranchOffset => Some((Instr::Branch((word / 256) as u8, (word % 256) as u8), 1)),
+        Shape::EmulatorTrap => Some((Instr::Emt((word % 256) as u8), 1)),
+        Shape::ProgramTrap => Some((Instr::Trap((word % 256) as u8), 1)),
+        Shape::ConditionCodes => Some((Instr::Flags(word / 16 % 2 == 1, (word % 16) as u8), 1)),
+        Shape::NoOperand => Some((Instr::Bare((word % 256) as u8), 1)),
+    }
+}
+
+fn shape_of(word: u16) -> Option<Shape>
+    ensures { result ≡ shape_at word }
+{
+    ROWS.iter()
+        .find(|row| row.first <= word && word - row.first < row.count)
+        .map(|row| row.shape)
+}
+
+fn takes_next(mode: u8, register: u8) -> bool
+    ensures { result ≡ wants_next mode register }
+{
+    mode >= 6 || register == 7 && (mode == 2 || mode == 3)
+}
+
+// The operand in the six low bits of the field, with its word at this index, and the index after it.
+fn operand(words: &[u16], at: usize, field: u16) -> Option<(Ea, usize)>
+    requires { at < 4 }
+    ensures { result ≡ ea_at words.now at field }
+{
+    let mode = (field / 8 % 8) as u8;
+    let register = (field % 8) as u8;
+    if takes_next(mode, register) {
+        let next = *words.get(at)?;
+        Some((
+            Ea {
+                mode,
+                register,
+                next: Some(next),
+            },
+            at + 1,
+        ))
+    } else {
+        Some((
+            Ea {
+                mode,
+                register,
+                next: None,
+            },
+            at,
+        ))
+    }
+}
+
+fn double_operand(word: u16, words: &[u16]) -> Option<(Instr, usize)>
+    ensures { result ≡ read_as Shape.DoubleOperand word words.now }
+{
+    let (source, at) = operand(words, 1, word / 64)?;
+    let (target, end) = operand(words, at, word)?;
+    Some((
+        Instr::Two((word / 4096 % 8) as u8, word >= 32768, source, target),
+        end,
+    ))
+}
+
+fn single_operand(word: u16, words: &[u16]) -> Option<(Instr, usize)>
+    ensures { result ≡ read_as Shape.SingleOperand word words.now }
+{
+    let (target, end) = operand(words, 1, word)?;
+    Some((
+        Instr::One((word / 64 % 256) as u8, word >= 32768, target),
+        end,
+    ))
+}
+
+fn register_operand(word: u16, words: &[u16]) -> Option<(Instr, usize)>
+    ensures { result ≡ read_as Shape.RegisterOperand word words.now }
+{
+    let (source, end) = operand(words, 1, word)?;
+    Some((
+        Instr::Extended((word / 512 % 8) as u8, (word / 64 % 8) as u8, source),
+        end,
+    ))
+}
+
+fn jump_to_subroutine(word: u16, words: &[u16]) -> Option<(Instr, usize)>
+    ensures { result ≡ read_as Shape.JumpToSubroutine word words.now }
+{
+    let (target, end) = operand(words, 1, word)?;
+    Some((Instr::Jsr((word / 64 % 8) as u8, target), end))
+}

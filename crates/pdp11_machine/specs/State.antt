@@ -1,0 +1,55 @@
+-- What clauses see of a machine, and its smallest parts: the memory, the general registers and the processor status
+-- word of the PDP-11/40 Processor Handbook, chapters 2 and 3.
+use Rattle.std.specs.Prelude.{◌≡◌, ℕ, ◌+◌, ◌-◌, ◌*◌, ◌/◌, ◌%◌, ◌<◌, Bool, true, false, ◌&&◌, nat_lt, nat_eq, if◌then◌else◌, Option, Some, None, List, slice_index, slice_set, replicate}
+
+pub record Flags : Type 0 where
+  pub negative : Bool
+  pub zero : Bool
+  pub overflow : Bool
+  pub carry : Bool
+
+-- 28,672 words of memory; R0 to R5, SP and PC; the flags; and bits 4 to 15 of the status word, which are kept and have
+-- no effect
+pub record State : Type 0 where
+  pub memory : List ℕ
+  pub registers : List ℕ
+  pub flags : Flags
+  pub upper : ℕ
+
+abbrev pub not : Bool → Bool
+not true = false
+not false = true
+
+abbrev pub reg : State → ℕ → ℕ
+reg s r = slice_index s.registers r
+
+abbrev pub with_reg : State → ℕ → ℕ → State
+with_reg s r word = record s { registers = slice_set s.registers r word }
+
+-- the address is that of a word of the memory
+abbrev pub is_place : ℕ → Bool
+is_place a = nat_eq (a % 2) 0 && nat_lt a 57344
+
+-- the word at an address, or none at a bus trap
+abbrev pub word_at : State → ℕ → Option ℕ
+word_at s a = if is_place a then Some (slice_index s.memory (a / 2)) else None
+
+abbrev pub with_word : State → ℕ → ℕ → State
+with_word s a word = record s { memory = slice_set s.memory (a / 2) word }
+
+abbrev pub bit_of : Bool → ℕ
+bit_of b = if b then 1 else 0
+
+-- the processor status word: N Z V C are bits 3 to 0
+abbrev pub status_of : State → ℕ
+status_of s = 16 * s.upper + 8 * bit_of s.flags.negative + 4 * bit_of s.flags.zero + 2 * bit_of s.flags.overflow + bit_of s.flags.carry
+
+abbrev pub flags_in : ℕ → Flags
+flags_in word = record { negative = nat_eq (word / 8 % 2) 1; zero = nat_eq (word / 4 % 2) 1; overflow = nat_eq (word / 2 % 2) 1; carry = nat_eq (word % 2) 1 }
+
+abbrev pub with_status : State → ℕ → State
+with_status s word = record s { flags = flags_in word; upper = word / 16 }
+
+-- zero memory, registers and status
+unfoldable pub zero_machine : State
+zero_machine = record { memory = replicate 28672 0; registers = replicate 8 0; flags = record { negative = false; zero = false; overflow = false; carry = false }; upper = 0 }

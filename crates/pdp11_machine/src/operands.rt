@@ -1,0 +1,140 @@
+//! Where operands stand, and what stands there.
+
+ghost use Rattle.std.specs.Prelude.{◌≡◌, ℕ, ◌+◌, ◌-◌, ◌*◌, ◌/◌, ◌%◌, ◌<◌, ◌≤◌, List, length, Some, None, if◌then◌else◌, IfSome};
+ghost use Rattle.pdp11_machine.specs.State.{State, reg, with_reg, is_place, word_at, with_word};
+ghost use Rattle.pdp11_machine.specs.Operands.{fetched, step_of, incremented, decremented, indexed, behind, addressed, placed, IsRegistered, loaded, stored};
+
+use crate::{Machine, Place};
+
+impl Machine {
+    fn read(&self, address: u16) -> Option<u16>
+        ensures { result ≡ word_at self.now address }
+    {
+        if address % 2 == 0 && address < 57344 {
+            Some(self.memory[(address / 2) as usize])
+        } else {
+            None
+        }
+    }
+
+    pub(crate) fn write(&mut self, address: u16, word: u16) -> Option<()>
+        ensures { (self.new, result) ≡ stored self.old (Place.Cell address) word }
+    {
+        if address % 2 == 0 && address < 57344 {
+            self.memory[(address / 2) as usize] = word;
+            Some(())
+        } else {
+            None
+        }
+    }
+
+    pub(crate) fn fetch(&mut self) -> Option<u16>
+        ensures { (self.new, result) ≡ fetched self.old }
+    {
+        let place = self.register(7);
+        let word = self.read(place)?;
+        self.set_register(7, place.wrapping_add(2));
+        Some(word)
+    }
+
+    fn increment(&mut self, bytes: bool, register: u8) -> Option<u16>
+        requires { register < 8 }
+        ensures { (self.new, result) ≡ incremented bytes register self.old }
+    {
+        let address = self.register(register);
+        if register == 7 {
+            self.fetch()?;
+        } else {
+            self.set_register(register, address.wrapping_add(step(bytes, register)));
+        }
+        Some(address)
+    }
+
+    fn decrement(&mut self, bytes: bool, register: u8) -> Option<u16>
+        requires { register < 8 }
+        ensures { (self.new, result) ≡ decremented bytes register self.old }
+    {
+        let address = self.register(register).wrapping_sub(step(bytes, register));
+        self.set_register(register, address);
+        Some(address)
+    }
+
+    fn index(&mut self, register: u8) -> Option<u16>
+        requires { register < 8 }
+        ensures { (self.new, result) ≡ indexed register self.old }
+    {
+        let offset = self.fetch()?;
+        Some(self.register(register).wrapping_add(offset))
+    }
+
+    fn through(&self, deferred: bool, address: u16) -> Option<u16>
+        ensures { result ≡ behind deferred self.now address }
+    {
+        if deferred {
+            self.read(address)
+        } else {
+            Some(address)
+        }
+    }
+
+    pub(crate) fn address(&mut self, byte: bool, mode: u8, register: u8) -> Option<u16>
+        requires { register < 8 }
+        ensures { (self.new, result) ≡ addressed byte mode register self.old }
+    {
+        if mode == 1 {
+            Some(self.register(register))
+        } else if mode <= 3 {
+            let first = self.increment(byte && mode == 2, register)?;
+            self.through(mode == 3, first)
+        } else if mode <= 5 {
+            let first = self.decrement(byte && mode == 4, register)?;
+            self.through(mode == 5, first)
+        } else {
+            let first = self.index(register)?;
+            self.through(mode == 7, first)
+        }
+    }
+
+    pub(crate) fn place(&mut self, byte: bool, mode: u8, register: u8) -> Option<Place>
+        requires { register < 8 }
+        ensures place { (self.new, result) ≡ placed byte mode register self.old }
+        ensures registered { IfSome result IsRegistered }
+    {
+        if mode == 0 {
+            Some(Place::Register(register))
+        } else {
+            let address = self.address(byte, mode, register)?;
+            Some(Place::Cell(address))
+        }
+    }
+
+    pub(crate) fn load(&self, place: Place) -> Option<u16>
+        requires { IsRegistered place }
+        ensures { result ≡ loaded self.now place }
+    {
+        match place {
+            Place::Register(register) => Some(self.register(register)),
+            Place::Cell(address) => self.read(address),
+        }
+    }
+
+    pub(crate) fn store(&mut self, place: Place, word: u16) -> Option<()>
+        requires { IsRegistered place }
+        ensures { (self.new, result) ≡ stored self.old place word }
+    {
+        match place {
+            Place::Register(register) => {
+                self.set_register(register, word);
+                Some(())
+            }
+            Place::Cell(address) => self.write(address, word),
+        }
+    }
+}
+
+// How far a register steps.
+fn step(bytes: bool, register: u8) -> u16
+    ensures { result ≡ step_of bytes register }
+{
+    if bytes && register < 6 { 1 } else { 2 }
+}
