@@ -1,0 +1,4 @@
+pub mod Compose
+pub mod Jumps
+pub mod Ops
+pub mod Texts

@@ -1,0 +1,8 @@
+//! The console of the machine: what it writes, its services, and the runs of machine and console.
+#![tactic(auto)]
+
+mod console;
+mod instruction;
+
+pub use console::{Console, Served};
+pub use instruction::{Stop, execute};
