@@ -1,12 +1,24 @@
-//! What every crate of dice11 speaks of: names, link words, and where bytes come from and go to.
+//! What every crate of dice11 speaks of: names, link words, texts, tokens, and where bytes come from and go to.
 #![tactic(auto)]
 
+mod decimal;
 mod fault;
 mod link;
+mod memory;
 mod name;
 mod outside;
+mod standard;
+mod text;
+mod token;
+mod whole;
 
+pub use decimal::push_decimal;
 pub use fault::{Failed, NoMemory};
 pub use link::{LinkTo, LinkWord};
+pub use memory::{MemSink, MemSource};
 pub use name::{Name, Span};
 pub use outside::{Sink, Source};
+pub use standard::{StdSink, StdSource};
+pub use text::Text;
+pub use token::{SIGNS, Token, TokenKind, WORD_SYMBOLS};
+pub use whole::write_all;

@@ -1,0 +1,5 @@
+pub mod Charge
+pub mod Program
+pub mod State
+pub mod Step
+pub mod Run

@@ -1,0 +1,118 @@
+-- The plain machine from gate to gate: what the steps of a whole statement come to.
+use Rattle.std.proofs.Common.{◌≡◌, ℕ, zero, suc, true, false, List, [], ◌∷◌, Option, Some, None, refl, ap, ◌∙◌}
+use Rattle.pascal_semantics.specs.declared.form.Operand.{Operand}
+use Rattle.pascal_semantics.specs.declared.form.Sum.{Sum}
+use Rattle.pascal_semantics.specs.declared.form.SimpleForm.{SimpleForm}
+use Rattle.pascal_semantics.specs.declared.form.SimpleForm.TheVariants.{Assign, WriteLine}
+use Rattle.pascal_semantics.specs.Program.{Program, Row, row_of, Target, Gate, Finish}
+use Rattle.pascal_semantics.specs.State.{Halted, Failed, OfStatement, OfSum, OfOperand, PendingFrame, Activation, State}
+use Rattle.pascal_semantics.specs.Step.{Result, Value, Error, sum_of, operand_value, effect_of, arrived, carried_on, delivered, frame_of, gate_passed, small_step}
+use Rattle.pascal_semantics.specs.Run.{settled, steps_limit, unless, rests, rests_by}
+
+-- the value of a sum, or its error
+abbrev pub sum_outcome : Operand → Option Operand → List ℕ → Result
+sum_outcome a None globals = Value (operand_value a globals)
+sum_outcome a (Some b) globals = sum_of (operand_value a globals) (operand_value b globals)
+
+abbrev pub sum_in : SimpleForm → Sum
+sum_in (Assign g e) = e
+sum_in (WriteLine e w) = e
+
+-- the values of the operands
+abbrev pub second_values : Option Operand → List ℕ → List ℕ
+second_values None globals = []
+second_values (Some b) globals = operand_value b globals ∷ []
+
+abbrev pub sum_values : Sum → List ℕ → List ℕ
+sum_values e globals = operand_value e.first globals ∷ second_values e.second globals
+
+abbrev pub program_at : ℕ → List PendingFrame → List Activation
+program_at n frames = record { routine = 1; statement = n; frames = frames } ∷ []
+
+-- the machine stands in the statement of this name
+abbrev pub at_statement : ℕ → List PendingFrame → List ℕ → List ℕ → State
+at_statement n frames globals output = record { status = Halted; activations = program_at n frames; globals = globals; output = output }
+
+-- the machine stands before the gate of this statement
+abbrev pub before_gate : ℕ → List ℕ → List ℕ → State
+before_gate n globals output = at_statement n [] globals output
+
+-- what a statement comes to, by the outcome of its sum
+abbrev pub outcome_state : Result → SimpleForm → Sum → Target → ℕ → List ℕ → List ℕ → State
+outcome_state (Value v) f e target n globals output = arrived target (record { routine = 1; statement = n; frames = record { node = OfStatement f; kept = v ∷ [] } ∷ [] }) [] (effect_of f v (at_statement n (record { node = OfStatement f; kept = v ∷ [] } ∷ []) globals output))
+outcome_state (Error number) f e target n globals output = record { status = Failed number n; activations = program_at n (record { node = OfSum e; kept = sum_values e globals } ∷ (frame_of (OfStatement f) ∷ [])); globals = globals; output = output }
+
+-- the first step passes the gate
+gate_step : (P : Program) (n : ℕ) (row : Row) (globals output : List ℕ) → row_of P n ≡ Some row → small_step P (before_gate n globals output) ≡ at_statement n (frame_of (OfStatement row.form) ∷ []) globals output
+gate_step P n row globals output h = ap (λ o. gate_passed o (record { routine = 1; statement = n; frames = [] }) [] (before_gate n globals output)) h
+
+-- the last step does the statement's effect
+effect_step : (P : Program) (n v : ℕ) (row : Row) (f : SimpleForm) (s : Sum) (globals output : List ℕ) → row_of P n ≡ Some row → small_step P (at_statement n (record { node = OfStatement f; kept = v ∷ [] } ∷ []) globals output) ≡ outcome_state (Value v) f s row.continuation n globals output
+effect_step P n v row (Assign g e) s globals output h = ap (λ o. carried_on o (Assign g e) (v ∷ []) (record { routine = 1; statement = n; frames = record { node = OfStatement (Assign g e); kept = v ∷ [] } ∷ [] }) [] (at_statement n (record { node = OfStatement (Assign g e); kept = v ∷ [] } ∷ []) globals output)) h
+effect_step P n v row (WriteLine e w) s globals output h = ap (λ o. carried_on o (WriteLine e w) (v ∷ []) (record { routine = 1; statement = n; frames = record { node = OfStatement (WriteLine e w); kept = v ∷ [] } ∷ [] }) [] (at_statement n (record { node = OfStatement (WriteLine e w); kept = v ∷ [] } ∷ []) globals output)) h
+
+pub settled_on : (m : ℕ) (P : Program) (s t : State) → rests s ≡ false → small_step P s ≡ t → settled (suc m) P s ≡ settled m P t
+unfolding settled
+settled_on m P s t e f = ap (λ b. unless b s (λ u. settled m P (small_step P u))) e ∙ ap (settled m P) f
+
+pub settled_rests : (m : ℕ) (P : Program) (s : State) → rests s ≡ true → settled m P s ≡ s
+unfolding settled
+settled_rests zero P s e = refl
+settled_rests (suc m) P s e = ap (λ b. unless b s (λ u. settled m P (small_step P u))) e
+
+-- where control arrives the machine rests
+arrived_rests : (target : Target) (a : Activation) (s : State) → s.status ≡ Halted → rests (arrived target a [] s) ≡ true
+arrived_rests (Gate n) a s e = ap (λ x. rests_by x (record a { statement = n; frames = [] } ∷ [])) e
+arrived_rests Finish a s e = refl
+
+outcome_rests : (r : Result) (f : SimpleForm) (e : Sum) (target : Target) (n : ℕ) (globals output : List ℕ) → rests (outcome_state r f e target n globals output) ≡ true
+outcome_rests (Value v) (Assign g e) s target n globals output = arrived_rests target _ _ refl
+outcome_rests (Value v) (WriteLine e w) s target n globals output = arrived_rests target _ _ refl
+outcome_rests (Error number) f e target n globals output = refl
+
+-- the frames of a sum under way, in its statement
+abbrev pub sum_frames : SimpleForm → Sum → List ℕ → List PendingFrame
+sum_frames f e kept = record { node = OfSum e; kept = kept } ∷ (frame_of (OfStatement f) ∷ [])
+
+-- the sum has its operands' values
+value_settles : (m : ℕ) (P : Program) (n : ℕ) (row : Row) (f : SimpleForm) (e : Sum) (v : ℕ) (globals output : List ℕ) → row_of P n ≡ Some row
+    → settled (suc m) P (at_statement n (record { node = OfStatement f; kept = v ∷ [] } ∷ []) globals output) ≡ outcome_state (Value v) f e row.continuation n globals output
+value_settles m P n row f e v globals output h =
+    settled_on m P _ _ refl (effect_step P n v row f e globals output h) ∙ settled_rests m P _ (outcome_rests (Value v) f e row.continuation n globals output)
+
+sum_settles : (m : ℕ) (P : Program) (n : ℕ) (row : Row) (f : SimpleForm) (e : Sum) (r : Result) (globals output : List ℕ) → row_of P n ≡ Some row
+    → settled (suc m) P (delivered r (frame_of (OfStatement f) ∷ []) (record { routine = 1; statement = n; frames = sum_frames f e (sum_values e globals) }) [] (at_statement n (sum_frames f e (sum_values e globals)) globals output)) ≡ outcome_state r f e row.continuation n globals output
+sum_settles m P n row f e (Value v) globals output h = value_settles m P n row f e v globals output h
+sum_settles m P n row f e (Error number) globals output h = settled_rests (suc m) P _ refl
+
+-- one operand after the other
+operands_settle : (m : ℕ) (P : Program) (n : ℕ) (row : Row) (f : SimpleForm) (a : Operand) (o : Option Operand) (globals output : List ℕ) → row_of P n ≡ Some row
+    → settled (suc (suc (suc (suc (suc (suc m)))))) P (at_statement n (sum_frames f (record { first = a; second = o }) []) globals output) ≡ outcome_state (sum_outcome a o globals) f (record { first = a; second = o }) row.continuation n globals output
+operands_settle m P n row f a None globals output h =
+    let e : Sum = record { first = a; second = None } in
+    settled_on (suc (suc (suc (suc (suc m))))) P (at_statement n (sum_frames f e []) globals output) (at_statement n (frame_of (OfOperand a) ∷ sum_frames f e []) globals output) refl refl
+    ∙ settled_on (suc (suc (suc (suc m)))) P (at_statement n (frame_of (OfOperand a) ∷ sum_frames f e []) globals output) (at_statement n (sum_frames f e (operand_value a globals ∷ [])) globals output) refl refl
+    ∙ settled_on (suc (suc (suc m))) P (at_statement n (sum_frames f e (operand_value a globals ∷ [])) globals output) _ refl refl
+    ∙ sum_settles (suc (suc m)) P n row f e (Value (operand_value a globals)) globals output h
+operands_settle m P n row f a (Some b) globals output h =
+    let e : Sum = record { first = a; second = Some b } in
+    let x = operand_value a globals in
+    let y = operand_value b globals in
+    settled_on (suc (suc (suc (suc (suc m))))) P (at_statement n (sum_frames f e []) globals output) (at_statement n (frame_of (OfOperand a) ∷ sum_frames f e []) globals output) refl refl
+    ∙ settled_on (suc (suc (suc (suc m)))) P (at_statement n (frame_of (OfOperand a) ∷ sum_frames f e []) globals output) (at_statement n (sum_frames f e (x ∷ [])) globals output) refl refl
+    ∙ settled_on (suc (suc (suc m))) P (at_statement n (sum_frames f e (x ∷ [])) globals output) (at_statement n (frame_of (OfOperand b) ∷ sum_frames f e (x ∷ [])) globals output) refl refl
+    ∙ settled_on (suc (suc m)) P (at_statement n (frame_of (OfOperand b) ∷ sum_frames f e (x ∷ [])) globals output) (at_statement n (sum_frames f e (x ∷ (y ∷ []))) globals output) refl refl
+    ∙ settled_on (suc m) P (at_statement n (sum_frames f e (x ∷ (y ∷ []))) globals output) _ refl refl
+    ∙ sum_settles m P n row f e (sum_of x y) globals output h
+
+-- a whole statement, from its gate on
+pub statement_settles : (P : Program) (n : ℕ) (row : Row) (globals output : List ℕ) → row_of P n ≡ Some row
+    → settled steps_limit P (small_step P (before_gate n globals output)) ≡ outcome_state (sum_outcome (sum_in row.form).first (sum_in row.form).second globals) row.form (sum_in row.form) row.continuation n globals output
+statement_settles P n row globals output h =
+    ap (settled steps_limit P) (gate_step P n row globals output h)
+    ∙ settled_on 999999 P (at_statement n (frame_of (OfStatement row.form) ∷ []) globals output) (at_statement n (sum_frames row.form (sum_in row.form) []) globals output) refl (part row.form)
+    ∙ operands_settle 999993 P n row row.form (sum_in row.form).first (sum_in row.form).second globals output h
+  where
+    part : (f : SimpleForm) → small_step P (at_statement n (frame_of (OfStatement f) ∷ []) globals output) ≡ at_statement n (sum_frames f (sum_in f) []) globals output
+    part (Assign g e) = refl
+    part (WriteLine e w) = refl

@@ -1,0 +1,41 @@
+-- How many words of the target's memory the block of a form is given: upper bounds on its code, by its nodes.
+use Rattle.std.specs.Prelude.{ℕ, ◌+◌, List, [], ◌∷◌, Option, Some, None}
+use Rattle.pascal_semantics.specs.declared.form.Operand.{Operand}
+use Rattle.pascal_semantics.specs.declared.form.Operand.TheVariants.{Global, Number}
+use Rattle.pascal_semantics.specs.declared.form.Sum.{Sum}
+use Rattle.pascal_semantics.specs.declared.form.SimpleForm.{SimpleForm}
+use Rattle.pascal_semantics.specs.declared.form.SimpleForm.TheVariants.{Assign, WriteLine}
+
+-- the place of a global variable
+abbrev pub place_charge : ℕ
+place_charge = 8
+
+-- a variable is its place and 4 words for its value
+abbrev pub operand_charge : Operand → ℕ
+operand_charge (Global g) = place_charge + 4
+operand_charge (Number n) = 4
+
+abbrev pub second_charge : Option Operand → ℕ
+second_charge None = 0
+second_charge (Some b) = operand_charge b + 16
+
+abbrev pub sum_charge : Sum → ℕ
+sum_charge s = operand_charge s.first + second_charge s.second
+
+abbrev pub width_charge : Option ℕ → ℕ
+width_charge None = 0
+width_charge (Some w) = 4
+
+-- the words of a statement's block
+abbrev pub charge_of : SimpleForm → ℕ
+charge_of (Assign g e) = 24 + place_charge + sum_charge e
+charge_of (WriteLine e w) = 16 + 24 + sum_charge e + width_charge w
+
+-- the words of the program's block
+abbrev pub program_charge : ℕ
+program_charge = 32
+
+-- the words of all statements
+abbrev pub charges_of : List SimpleForm → ℕ
+charges_of [] = 0
+charges_of (f ∷ fs) = charge_of f + charges_of fs

@@ -1,0 +1,130 @@
+-- One step of the plain machine (ISO 7185:1990, 6.7, 6.8 and 6.9, in this profile: operands are worked out from left to
+-- right, and an integer result outside -32767 to 32767 is run-time error 3).
+use Rattle.std.specs.Prelude.{ℕ, ◌+◌, ◌-◌, ◌%◌, Bool, ◌&&◌, ◌==◌, nat_le, if◌then◌else◌, List, [], ◌∷◌, ◌++◌, length, Option, Some, None, slice_get, slice_index, slice_set, replicate}
+use Rattle.std.specs.Fmt.{decimal}
+use Rattle.pascal_semantics.specs.declared.form.Operand.{Operand}
+use Rattle.pascal_semantics.specs.declared.form.Operand.TheVariants.{Global, Number}
+use Rattle.pascal_semantics.specs.declared.form.SimpleForm.{SimpleForm}
+use Rattle.pascal_semantics.specs.declared.form.SimpleForm.TheVariants.{Assign, WriteLine}
+use Rattle.pascal_semantics.specs.Program.{Target, Gate, Finish, Program, Row, row_of}
+use Rattle.pascal_semantics.specs.State.{Status, Halted, Ended, Failed, Node, OfStatement, OfSum, OfOperand, PendingFrame, Activation, State}
+
+-- the parts of a node, in the order of evaluation
+abbrev pub second_part : Option Operand → List Node
+second_part None = []
+second_part (Some b) = OfOperand b ∷ []
+
+abbrev pub parts_of : Node → List Node
+parts_of (OfStatement (Assign g e)) = OfSum e ∷ []
+parts_of (OfStatement (WriteLine e w)) = OfSum e ∷ []
+parts_of (OfSum e) = OfOperand e.first ∷ second_part e.second
+parts_of (OfOperand o) = []
+
+-- the result of an operation: a value, or a run-time error
+pub data Result : Type 0 where
+  Value : (word : ℕ) → Result
+  Error : (number : ℕ) → Result
+
+-- the sum of two words lies outside -32767 to 32767
+abbrev pub is_negative : ℕ → Bool
+is_negative x = nat_le 32768 x
+
+abbrev pub leaves_integers : ℕ → ℕ → Bool
+leaves_integers x y =
+    if is_negative x then (is_negative y && nat_le (x + y) 98304)
+    else (if is_negative y then x + y == 32768 else nat_le 32768 (x + y))
+
+abbrev pub sum_of : ℕ → ℕ → Result
+sum_of x y = if leaves_integers x y then Error 3 else Value ((x + y) % 65536)
+
+abbrev pub operand_value : Operand → List ℕ → ℕ
+operand_value (Global g) globals = slice_index globals g
+operand_value (Number n) globals = n
+
+abbrev pub sum_value : List ℕ → Result
+sum_value [] = Value 0
+sum_value (x ∷ []) = Value x
+sum_value (x ∷ (y ∷ rest)) = sum_of x y
+
+-- the value of a node that has the values of its parts
+abbrev pub value_of : Node → List ℕ → List ℕ → Result
+value_of (OfOperand o) kept globals = Value (operand_value o globals)
+value_of (OfSum e) kept globals = sum_value kept
+value_of (OfStatement f) kept globals = Value 0
+
+-- an integer as text: its sign, and its decimal digits (6.9.3.2)
+abbrev pub number_text : ℕ → List ℕ
+number_text word = if is_negative word then 45 ∷ decimal (65536 - word) else decimal word
+
+-- padded on the left to the width, and never cut
+abbrev pub integer_text : ℕ → ℕ → List ℕ
+integer_text word width = replicate (width - length (number_text word)) 32 ++ number_text word
+
+abbrev pub width_of : Option ℕ → ℕ
+width_of None = 8
+width_of (Some w) = w
+
+-- what a statement does with the value of its part
+abbrev pub effect_of : SimpleForm → ℕ → State → State
+effect_of (Assign g e) word s = record s { globals = slice_set s.globals g word }
+effect_of (WriteLine e w) word s = record s { output = s.output ++ (integer_text word (width_of w) ++ 10 ∷ []) }
+
+-- control goes on before a gate, or the program has ended
+abbrev pub arrived : Target → Activation → List Activation → State → State
+arrived (Gate n) a older s = record s { activations = record a { statement = n; frames = [] } ∷ older }
+arrived Finish a older s = record s { status = Ended }
+
+abbrev pub first_of : List ℕ → ℕ
+first_of [] = 0
+first_of (x ∷ xs) = x
+
+abbrev pub carried_on : Option Row → SimpleForm → List ℕ → Activation → List Activation → State → State
+carried_on None f kept a older s = s
+carried_on (Some row) f kept a older s = arrived row.continuation a older (effect_of f (first_of kept) s)
+
+-- a value goes to the frame outside
+abbrev pub given : ℕ → List PendingFrame → List PendingFrame
+given word [] = []
+given word (f ∷ fs) = record f { kept = f.kept ++ word ∷ [] } ∷ fs
+
+abbrev pub with_frames : List PendingFrame → Activation → List Activation → State → State
+with_frames fs a older s = record s { activations = record a { frames = fs } ∷ older }
+
+abbrev pub delivered : Result → List PendingFrame → Activation → List Activation → State → State
+delivered (Value word) fs a older s = with_frames (given word fs) a older s
+delivered (Error e) fs a older s = record s { status = Failed e a.statement }
+
+-- a node has the values of all its parts
+abbrev pub completed : Program → Node → List ℕ → List PendingFrame → Activation → List Activation → State → State
+completed P (OfStatement f) kept fs a older s = carried_on (row_of P a.statement) f kept a older s
+completed P (OfSum e) kept fs a older s = delivered (value_of (OfSum e) kept s.globals) fs a older s
+completed P (OfOperand o) kept fs a older s = delivered (value_of (OfOperand o) kept s.globals) fs a older s
+
+abbrev pub frame_of : Node → PendingFrame
+frame_of node = record { node = node; kept = [] }
+
+-- the next part gets a frame, or the node has all its parts
+abbrev pub evaluated : Program → Option Node → PendingFrame → List PendingFrame → Activation → List Activation → State → State
+evaluated P (Some part) f fs a older s = with_frames (frame_of part ∷ (f ∷ fs)) a older s
+evaluated P None f fs a older s = completed P f.node f.kept fs a older s
+
+-- a gate is passed: the statement's frame is put on
+abbrev pub gate_passed : Option Row → Activation → List Activation → State → State
+gate_passed None a older s = s
+gate_passed (Some row) a older s = with_frames (frame_of (OfStatement row.form) ∷ []) a older s
+
+abbrev pub stepped : Program → List PendingFrame → Activation → List Activation → State → State
+stepped P [] a older s = gate_passed (row_of P a.statement) a older s
+stepped P (f ∷ fs) a older s = evaluated P (slice_get (parts_of f.node) (length f.kept)) f fs a older s
+
+abbrev pub newest_stepped : Program → List Activation → State → State
+newest_stepped P [] s = s
+newest_stepped P (a ∷ older) s = stepped P a.frames a older s
+
+abbrev pub halted_stepped : Program → Status → State → State
+halted_stepped P Halted s = newest_stepped P s.activations s
+halted_stepped P other s = s
+
+-- one step
+abbrev pub small_step : Program → State → State
+small_step P s = halted_stepped P s.status s
