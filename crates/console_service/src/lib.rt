@@ -3,6 +3,8 @@
 
 mod console;
 mod instruction;
+#[cfg(test)]
+mod tests;
 
 pub use console::{Console, Served};
 pub use instruction::{Stop, execute};
