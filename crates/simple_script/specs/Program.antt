@@ -90,12 +90,12 @@ width_tokens (Some n) = colon_sign ∷ Numeral n ∷ []
 abbrev pub form_tokens : List (List ℕ) → SimpleForm → List TokenKind
 form_tokens variables (Assign n value) = variable variables n ∷ becomes_sign ∷ sum_tokens variables value
 form_tokens variables (WriteLine value width) =
-    Ident (codes "writeln") ∷ open_sign ∷ sum_tokens variables value ++ width_tokens width ++ close_sign ∷ []
+    Ident (codes "writeln") ∷ open_sign ∷ (sum_tokens variables value ++ (width_tokens width ++ close_sign ∷ []))
 
 -- statements behind the first, each behind a semicolon
 abbrev pub more_forms : List (List ℕ) → List SimpleForm → List TokenKind
 more_forms variables [] = []
-more_forms variables (s ∷ ss) = semicolon_sign ∷ form_tokens variables s ++ more_forms variables ss
+more_forms variables (s ∷ ss) = semicolon_sign ∷ (form_tokens variables s ++ more_forms variables ss)
 
 abbrev pub form_list : List (List ℕ) → List SimpleForm → List TokenKind
 form_list variables [] = []
@@ -104,9 +104,9 @@ form_list variables (s ∷ ss) = form_tokens variables s ++ more_forms variables
 -- `program` ident `;` `var` v1 `,` v2 `:` `integer` `;` `begin` s1 `;` s2 `end` `.`
 abbrev pub spelled : Plain → List TokenKind
 spelled p =
-    program_word ∷ Ident p.ident ∷ semicolon_sign ∷ var_word ∷ ident_list p.variables
-    ++ colon_sign ∷ Ident (codes "integer") ∷ semicolon_sign ∷ begin_word ∷ form_list p.variables p.statements
-    ++ end_word ∷ period_sign ∷ []
+    program_word ∷ Ident p.ident ∷ semicolon_sign ∷ var_word ∷ (ident_list p.variables
+      ++ colon_sign ∷ Ident (codes "integer") ∷ semicolon_sign ∷ begin_word ∷ (form_list p.variables p.statements
+        ++ end_word ∷ period_sign ∷ []))
 
 -- ---- which programs are simple
 
