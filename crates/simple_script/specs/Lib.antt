@@ -1,0 +1,5 @@
+pub mod Borrowed
+pub mod Program
+pub mod Reading
+pub mod Script
+pub mod Whole
