@@ -1,5 +1,5 @@
 -- Branches and condition codes: PDP-11/40 Processor Handbook, chapter 4.
-use Rattle.std.specs.Prelude.{ℕ, ◌+◌, ◌*◌, ◌/◌, ◌%◌, Bool, true, false, ◌&&◌, ◌||◌, nat_le, nat_eq, if◌then◌else◌}
+use Rattle.std.specs.Prelude.{ℕ, ◌+◌, ◌*◌, ◌/◌, ◌%◌, Bool, true, false, ◌||◌, nat_le, nat_eq, if◌then◌else◌}
 use Rattle.pdp11_machine.specs.State.{State, Flags, reg, with_reg, not}
 
 abbrev pub differs : Bool → Bool → Bool

@@ -152,7 +152,7 @@ fn branches_go_by_the_flags(rt: HostRuntime) -> Result<(), Fail> {
         (0o103400, 0b1110, false),
     ];
     for (word, flags, taken) in cases {
-        let mut machine = machine_at(rt.alloc(), [word + 0o376, 0, 0])?;
+        let mut machine = machine_at(rt.alloc(), [word | 0o376, 0, 0])?;
         machine.set_status(flags);
         assert_eq!(rt; machine.step(), StepEnd::Went);
         let place = if taken { START - 2 } else { START + 2 };
