@@ -7,16 +7,8 @@ use Rattle.pascal_semantics.specs.declared.form.SimpleForm.TheVariants.{Assign, 
 use Rattle.pascal_semantics.specs.Program.{Program, Row, row_of, Target, Gate, Finish}
 use Rattle.pascal_semantics.specs.State.{Halted, Failed, OfStatement, OfSum, OfOperand, PendingFrame, Activation, State}
 use Rattle.pascal_semantics.specs.Step.{Result, Value, Error, sum_of, operand_value, effect_of, arrived, carried_on, delivered, frame_of, gate_passed, small_step}
+use Rattle.pascal_semantics.specs.Outcome.{sum_in, sum_outcome}
 use Rattle.pascal_semantics.specs.Run.{settled, steps_limit, unless, rests, rests_by}
-
--- the value of a sum, or its error
-abbrev pub sum_outcome : Operand → Option Operand → List ℕ → Result
-sum_outcome a None globals = Value (operand_value a globals)
-sum_outcome a (Some b) globals = sum_of (operand_value a globals) (operand_value b globals)
-
-abbrev pub sum_in : SimpleForm → Sum
-sum_in (Assign g e) = e
-sum_in (WriteLine e w) = e
 
 -- the values of the operands
 abbrev pub second_values : Option Operand → List ℕ → List ℕ

@@ -2,4 +2,5 @@ pub mod Charge
 pub mod Program
 pub mod State
 pub mod Step
+pub mod Outcome
 pub mod Run

@@ -1,7 +1,8 @@
 -- One step of the plain machine (ISO 7185:1990, 6.7, 6.8 and 6.9, in this profile: operands are worked out from left to
 -- right, and an integer result outside -32767 to 32767 is run-time error 3).
-use Rattle.std.specs.Prelude.{ℕ, ◌+◌, ◌-◌, ◌%◌, Bool, ◌&&◌, ◌==◌, nat_le, if◌then◌else◌, List, [], ◌∷◌, ◌++◌, length, Option, Some, None, slice_get, slice_index, slice_set, replicate}
+use Rattle.std.specs.Prelude.{ℕ, ℤ, pos, negsuc, ◌+◌, ◌-◌, ◌+ℤ◌, Bool, ◌==◌, nat_lt, if◌then◌else◌, List, [], ◌∷◌, ◌++◌, length, Option, Some, None, slice_get, slice_index, slice_set, replicate}
 use Rattle.std.specs.Fmt.{decimal}
+use Rattle.dice_base.specs.Word.{signed_value}
 use Rattle.pascal_semantics.specs.declared.form.Operand.{Operand}
 use Rattle.pascal_semantics.specs.declared.form.Operand.TheVariants.{Global, Number}
 use Rattle.pascal_semantics.specs.declared.form.SimpleForm.{SimpleForm}
@@ -25,17 +26,22 @@ pub data Result : Type 0 where
   Value : (word : ℕ) → Result
   Error : (number : ℕ) → Result
 
--- the sum of two words lies outside -32767 to 32767
-abbrev pub is_negative : ℕ → Bool
-is_negative x = nat_le 32768 x
+-- an integer value lies from -32767 to 32767
+abbrev pub leaves_integers : ℤ → Bool
+leaves_integers (pos n) = nat_lt 32767 n
+leaves_integers (negsuc n) = nat_lt 32766 n
 
-abbrev pub leaves_integers : ℕ → ℕ → Bool
-leaves_integers x y =
-    if is_negative x then (is_negative y && nat_le (x + y) 98304)
-    else (if is_negative y then x + y == 32768 else nat_le 32768 (x + y))
+-- the word of a number, in two's complement
+abbrev pub word_of : ℤ → ℕ
+word_of (pos n) = n
+word_of (negsuc n) = 65535 - n
+
+-- an operation's integer result
+abbrev pub integer_result : ℤ → Result
+integer_result z = if leaves_integers z then Error 3 else Value (word_of z)
 
 abbrev pub sum_of : ℕ → ℕ → Result
-sum_of x y = if leaves_integers x y then Error 3 else Value ((x + y) % 65536)
+sum_of x y = integer_result (signed_value x +ℤ signed_value y)
 
 abbrev pub operand_value : Operand → List ℕ → ℕ
 operand_value (Global g) globals = slice_index globals g
@@ -53,8 +59,12 @@ value_of (OfSum e) kept globals = sum_value kept
 value_of (OfStatement f) kept globals = Value 0
 
 -- an integer as text: its sign, and its decimal digits (6.9.3.2)
+abbrev pub signed_text : ℤ → List ℕ
+signed_text (pos n) = decimal n
+signed_text (negsuc n) = 45 ∷ decimal (n + 1)
+
 abbrev pub number_text : ℕ → List ℕ
-number_text word = if is_negative word then 45 ∷ decimal (65536 - word) else decimal word
+number_text word = signed_text (signed_value word)
 
 -- padded on the left to the width, and never cut
 abbrev pub integer_text : ℕ → ℕ → List ℕ

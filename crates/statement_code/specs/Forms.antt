@@ -1,0 +1,93 @@
+-- What the blocks of simple programs do, and when a machine stands for their variables, their frame and their output.
+use Rattle.std.specs.Prelude.{◌≡◌, ℕ, ◌*◌, ◌<◌, ◌≤◌, Bool, true, false, List, [], ◌∷◌, ◌++◌, length, slice_index, slice_set}
+use Rattle.dice_base.specs.declared.link.LinkTo.TheVariants.{Next, Child}
+use Rattle.console_service.specs.Cpu.{Cpu, memory_end}
+use Rattle.code_image.specs.Block.{First}
+use Rattle.code_image.specs.Semantics.{Begin, At, Exit, Out, Over, Fails, Hanging, Semantics}
+use Rattle.pascal_semantics.specs.declared.form.SimpleForm.{SimpleForm}
+use Rattle.pascal_semantics.specs.declared.form.SimpleForm.TheVariants.{Assign, WriteLine}
+use Rattle.pascal_semantics.specs.Charge.{charge_of, program_charge}
+use Rattle.pascal_semantics.specs.Step.{Result, Value, Error, width_of, integer_text}
+use Rattle.pascal_semantics.specs.Outcome.{sum_outcome, sum_in}
+use Rattle.statement_code.specs.Gives.{HasGlobals}
+
+-- the own forms of blocks: that of the program, and those of its statements
+pub data BlockForm : Type 0 where
+  ProgramBlock : BlockForm
+  StatementBlock : (form : SimpleForm) → BlockForm
+
+-- there are no calls yet
+abbrev pub NoCall : Type 0
+NoCall = ⊥
+
+abbrev pub call_number : NoCall → ℕ
+call_number path = 0
+
+abbrev pub IsCall : BlockForm → NoCall → Type 0
+IsCall f path = ⊥
+
+-- the variables and the output; whether the program's frame was made
+pub record Store : Type 0 where
+  pub globals : List ℕ
+  pub output : List ℕ
+  pub started : Bool
+
+-- what a statement does with the value of its sum
+abbrev pub stored : SimpleForm → ℕ → Store → Store
+stored (Assign g e) v d = record d { globals = slice_set d.globals g v }
+stored (WriteLine e w) v d = record d { output = d.output ++ (integer_text v (width_of w) ++ 10 ∷ []) }
+
+abbrev pub exit_by : SimpleForm → Store → Result → Exit NoCall Store
+exit_by f d (Value v) = Out Next (stored f v d)
+exit_by f d (Error number) = Fails number d
+
+abbrev pub outcome_of : SimpleForm → Store → Result
+outcome_of f d = sum_outcome (sum_in f).first (sum_in f).second d.globals
+
+-- a statement is carried out from its gate; the program's block makes the frame, and its end part ends the program
+abbrev pub does : BlockForm → Begin NoCall → Store → Exit NoCall Store
+does (StatementBlock f) s d = exit_by f d (outcome_of f d)
+does ProgramBlock (At First) d = Out (Child 0) (record d { started = true })
+does ProgramBlock other d = Over d
+
+-- the program's frame (words from R5): return address 0, caller's R5 0, static link 0, 45 words of stack, and nine zeros
+pub record HasFrame (c : Cpu) : Type 0 where
+  pub frame : c.r5 ≡ 57340
+  pub stack : c.sp ≡ 28659
+  pub back : slice_index c.mem 28671 ≡ 0
+  pub caller : slice_index c.mem 28670 ≡ 0
+  pub static_link : slice_index c.mem 28669 ≡ 0
+  pub charges : slice_index c.mem 28668 ≡ 45
+  pub zeros : (k : ℕ) → 28659 ≤ k → k < 28668 → slice_index c.mem k ≡ 0
+
+abbrev pub FrameHolds : Bool → Cpu → Type 0
+FrameHolds true c = HasFrame c
+FrameHolds false c = c.sp ≡ memory_end
+
+-- variables, frame and output are those of the store
+pub record Holds (d : Store) (hs : List (Hanging NoCall)) (c : Cpu) : Type 0 where
+  pub globals_are : HasGlobals d.globals c
+  pub frame : FrameHolds d.started c
+  pub console : c.console.output ≡ d.output
+
+-- once a run has ended, its variables and its output are told
+pub record Shows (d : Store) (c : Cpu) : Type 0 where
+  pub globals_are : HasGlobals d.globals c
+  pub console : c.console.output ≡ d.output
+
+-- half of the output's room is free at a gate; the program's frame is made once
+abbrev pub IsGood : BlockForm → Begin NoCall → Store → Type 0
+IsGood (StatementBlock f) s d = length d.output ≤ 32768
+IsGood ProgramBlock (At First) d = d.started ≡ false
+IsGood ProgramBlock other d = Unit {0}
+
+abbrev pub block_charge : BlockForm → ℕ
+block_charge ProgramBlock = program_charge
+block_charge (StatementBlock f) = charge_of f
+
+-- at the most so many instructions in a stretch, for each word of the block
+abbrev pub most : BlockForm → Begin NoCall → ℕ
+most f s = 16384 * block_charge f
+
+abbrev pub simple : Semantics BlockForm NoCall Store
+simple = record { does = does; number = call_number; IsPath = IsCall; IsGood = IsGood; Holds = Holds; Shows = Shows; most = most }

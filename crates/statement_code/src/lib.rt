@@ -1,0 +1,8 @@
+//! From statements to blocks of code.
+#![tactic(auto)]
+
+mod emit;
+
+pub use code_image::BlockCode;
+pub use emit::{emit_program, emit_simple};
+pub use pascal_semantics::{Operand, SimpleForm, Sum};
