@@ -1,21 +1,20 @@
 -- What is read is an instruction of the table, with the first word that was read.
-use Rattle.std.proofs.Common.{◌≡◌, ◌≢◌, ℕ, zero, suc, ◌+◌, ◌-◌, ◌*◌, ◌/◌, ◌%◌, ◌<◌, ◌≤◌, Bool, true, false, List, [], ◌∷◌, ◌++◌, length, get_or, Option, Some, None, refl, sym, ap, ◌∙◌, subst, arith, take}
-use Rattle.std.specs.Prelude.{slice_get, nat_lt, IfSome, find, option_and_then, ◌&&◌, nat_le, if◌then◌else◌, is_some, nat_eq}
+use Rattle.std.proofs.Common.{◌≡◌, ℕ, ◌+◌, ◌-◌, ◌*◌, ◌/◌, ◌%◌, ◌<◌, ◌≤◌, Bool, true, false, List, [], ◌∷◌, get_or, Option, Some, None, refl, sym, ap, ◌∙◌, arith}
+use Rattle.std.specs.Prelude.{slice_get, nat_lt, IfSome, find, option_and_then, ◌&&◌, nat_le, if◌then◌else◌, nat_eq}
 use Rattle.std.specs.Option.{option_map}
 use Rattle.std.specs.List.{list_all}
 use Rattle.std.proofs.Math.Dec.{lit<}
 use Rattle.std.proofs.lemmas.Nat.{mod_below}
-use Rattle.std.proofs.lemmas.Grind.{common_steps}
 use Rattle.std.proofs.lemmas.Bool.Decides.{nat_tests}
 use Rattle.pdp11_code.specs.declared.instr.Ea.{Ea}
 use Rattle.pdp11_code.specs.declared.instr.Instr.{Instr}
-use Rattle.pdp11_code.specs.declared.instr.Instr.TheVariants.{Two, Extended, One, Jsr, Rts, Sob, Branch, Emt, Trap, Flags, Bare}
+use Rattle.pdp11_code.specs.declared.instr.Instr.TheVariants.{Two, Extended, One, Jsr}
 use Rattle.pdp11_code.specs.declared.table.Shape.{Shape}
 use Rattle.pdp11_code.specs.declared.table.Shape.TheVariants.{DoubleOperand, SingleOperand, RegisterOperand, JumpToSubroutine, ReturnFromSubroutine, SubtractOneAndBranch, BranchOffset, EmulatorTrap, ProgramTrap, ConditionCodes, NoOperand}
 use Rattle.pdp11_code.specs.declared.table.Row.{Row}
 use Rattle.pdp11_code.specs.declared.table.TheConstants.{ROWS}
 use Rattle.pdp11_code.specs.Code.{is_in, shape_at, wants_next, ea_at, read_as, decoded}
-use Rattle.pdp11_code.specs.Write.{high_bit, field_of, first_word, next_words, encoded, IsEa, IsInstr}
+use Rattle.pdp11_code.specs.Write.{high_bit, field_of, first_word, IsEa, IsInstr}
 
 -- the fields of a word of two operands make up the word
 pub pair_word : (w : ℕ) → w < 65536 → high_bit (nat_le 32768 w) + w / 4096 % 8 * 4096 + (w / 64 / 8 % 8 * 8 + w / 64 % 8) * 64 + (w / 8 % 8 * 8 + w % 8) ≡ w

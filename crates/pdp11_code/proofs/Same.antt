@@ -1,14 +1,14 @@
 -- What is read is written as the words that were read.
-use Rattle.std.proofs.Common.{◌≡◌, ℕ, zero, suc, ◌+◌, ◌*◌, ◌/◌, ◌%◌, ◌<◌, Bool, true, false, List, [], ◌∷◌, ◌++◌, length, get_or, Option, Some, None, refl, sym, ap, ◌∙◌, take}
-use Rattle.std.specs.Prelude.{slice_get, IfSome, option_and_then, nat_le, nat_eq, if◌then◌else◌}
+use Rattle.std.proofs.Common.{◌≡◌, ℕ, suc, ◌+◌, ◌/◌, ◌%◌, ◌<◌, Bool, true, false, List, [], ◌∷◌, length, get_or, Option, Some, None, refl, ap, ◌∙◌, take}
+use Rattle.std.specs.Prelude.{slice_get, IfSome, option_and_then, nat_le, if◌then◌else◌}
 use Rattle.std.specs.Option.{option_map}
 use Rattle.pdp11_code.specs.declared.instr.Ea.{Ea}
 use Rattle.pdp11_code.specs.declared.instr.Instr.{Instr}
-use Rattle.pdp11_code.specs.declared.instr.Instr.TheVariants.{Two, Extended, One, Jsr, Rts, Sob, Branch, Emt, Trap, Flags, Bare}
+use Rattle.pdp11_code.specs.declared.instr.Instr.TheVariants.{Two, Extended, One, Jsr}
 use Rattle.pdp11_code.specs.declared.table.Shape.{Shape}
 use Rattle.pdp11_code.specs.declared.table.Shape.TheVariants.{DoubleOperand, SingleOperand, RegisterOperand, JumpToSubroutine, ReturnFromSubroutine, SubtractOneAndBranch, BranchOffset, EmulatorTrap, ProgramTrap, ConditionCodes, NoOperand}
 use Rattle.pdp11_code.specs.Code.{shape_at, wants_next, read_as, decoded}
-use Rattle.pdp11_code.specs.Write.{first_word, next_words, following, encoded, IsInstr}
+use Rattle.pdp11_code.specs.Write.{next_words, following, encoded}
 use Rattle.pdp11_code.proofs.Laws.{IsListed, first_listed}
 
 -- the words behind the first are those that were read there

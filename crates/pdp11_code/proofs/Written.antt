@@ -1,16 +1,14 @@
 -- What is written is read again.
-use Rattle.std.proofs.Common.{◌≡◌, ◌≢◌, ℕ, zero, suc, ◌+◌, ◌-◌, ◌*◌, ◌/◌, ◌%◌, ◌<◌, ◌≤◌, Bool, true, false, List, [], ◌∷◌, ◌++◌, length, get_or, Option, Some, None, refl, sym, ap, ◌∙◌, subst, arith, take, length-append, append_assoc}
-use Rattle.std.specs.Prelude.{slice_get, nat_lt, IfSome, find, option_and_then, ◌&&◌, nat_le, if◌then◌else◌, is_some, nat_eq}
-use Rattle.std.specs.Option.{option_map}
+use Rattle.std.proofs.Common.{◌≡◌, ℕ, suc, ◌+◌, ◌*◌, ◌/◌, ◌%◌, ◌<◌, Bool, true, false, List, ◌∷◌, ◌++◌, length, Option, Some, None, refl, sym, ap, ◌∙◌, arith, length-append}
+use Rattle.std.specs.Prelude.{slice_get, nat_le, if◌then◌else◌, is_some, nat_eq}
 use Rattle.std.proofs.lemmas.Bool.Decides.{nat_tests}
 use Rattle.pdp11_code.specs.declared.instr.Ea.{Ea}
 use Rattle.pdp11_code.specs.declared.instr.Instr.{Instr}
 use Rattle.pdp11_code.specs.declared.instr.Instr.TheVariants.{Two, Extended, One, Jsr, Rts, Sob, Branch, Emt, Trap, Flags, Bare}
-use Rattle.pdp11_code.specs.declared.table.Shape.{Shape}
-use Rattle.pdp11_code.specs.declared.table.Shape.TheVariants.{DoubleOperand, SingleOperand, RegisterOperand, JumpToSubroutine, ReturnFromSubroutine, SubtractOneAndBranch, BranchOffset, EmulatorTrap, ProgramTrap, ConditionCodes, NoOperand}
+use Rattle.pdp11_code.specs.declared.table.Shape.TheVariants.{DoubleOperand, NoOperand}
 use Rattle.pdp11_code.proofs.Laws.{shape_within}
-use Rattle.pdp11_code.specs.Code.{shape_at, wants_next, ea_at, read_as, decoded}
-use Rattle.pdp11_code.specs.Write.{high_bit, field_of, first_word, next_words, encoded, IsEa, IsInstr}
+use Rattle.pdp11_code.specs.Code.{wants_next, ea_at, read_as, decoded}
+use Rattle.pdp11_code.specs.Write.{high_bit, next_words, encoded, IsEa, IsInstr}
 
 -- an operand is read again from its field and its word
 ea_again : (words : List ℕ) (at field mode register : ℕ) (next : Option ℕ) → is_some next ≡ wants_next mode register → field / 8 % 8 ≡ mode → field % 8 ≡ register → ((w : ℕ) → next ≡ Some w → slice_get words at ≡ Some w) → ea_at words at field ≡ Some (record { mode = mode; register = register; next = next }, at + length (next_words next))

@@ -1,6 +1,6 @@
 -- How words are read as instructions by the table of src/table.rt: the instruction formats of the PDP-11/40 Processor
 -- Handbook, chapters 3 and 4.
-use Rattle.std.specs.Prelude.{◌≡◌, ℕ, option_and_then, zero, suc, ◌+◌, ◌-◌, ◌*◌, ◌/◌, ◌%◌, ◌<◌, ◌≤◌, Bool, true, false, ◌&&◌, ◌||◌, nat_lt, nat_le, nat_eq, if◌then◌else◌, Option, Some, None, List, [], ◌∷◌, ◌++◌, length, slice_get, find, IsTrue}
+use Rattle.std.specs.Prelude.{ℕ, option_and_then, ◌+◌, ◌-◌, ◌/◌, ◌%◌, Bool, ◌&&◌, ◌||◌, nat_lt, nat_le, nat_eq, if◌then◌else◌, Option, Some, None, List, [], ◌∷◌, slice_get, find}
 use Rattle.std.specs.Option.{option_map}
 use Rattle.pdp11_code.specs.declared.instr.Ea.{Ea}
 use Rattle.pdp11_code.specs.declared.instr.Instr.{Instr}

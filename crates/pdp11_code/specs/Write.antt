@@ -1,10 +1,9 @@
 -- How instructions are written as words, and which there are: the instruction formats of the PDP-11/40 Processor
 -- Handbook, chapters 3 and 4.
-use Rattle.std.specs.Prelude.{◌≡◌, ℕ, ◌+◌, ◌*◌, ◌<◌, Bool, true, false, if◌then◌else◌, Option, Some, None, List, [], ◌∷◌, ◌++◌, is_some}
+use Rattle.std.specs.Prelude.{◌≡◌, ℕ, ◌+◌, ◌*◌, ◌<◌, Bool, if◌then◌else◌, Option, Some, None, List, [], ◌∷◌, ◌++◌, is_some}
 use Rattle.pdp11_code.specs.declared.instr.Ea.{Ea}
 use Rattle.pdp11_code.specs.declared.instr.Instr.{Instr}
 use Rattle.pdp11_code.specs.declared.instr.Instr.TheVariants.{Two, Extended, One, Jsr, Rts, Sob, Branch, Emt, Trap, Flags, Bare}
-use Rattle.pdp11_code.specs.declared.table.Shape.{Shape}
 use Rattle.pdp11_code.specs.declared.table.Shape.TheVariants.{DoubleOperand, SingleOperand, RegisterOperand, JumpToSubroutine, ReturnFromSubroutine, SubtractOneAndBranch, BranchOffset, EmulatorTrap, ProgramTrap, ConditionCodes, NoOperand}
 use Rattle.pdp11_code.specs.Code.{shape_at, wants_next}
 

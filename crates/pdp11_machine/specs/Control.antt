@@ -1,5 +1,5 @@
 -- Branches and condition codes: PDP-11/40 Processor Handbook, chapter 4.
-use Rattle.std.specs.Prelude.{ℕ, ◌+◌, ◌*◌, ◌/◌, ◌%◌, Bool, true, false, ◌&&◌, ◌||◌, nat_le, nat_eq, if◌then◌else◌}
+use Rattle.std.specs.Prelude.{ℕ, ◌+◌, ◌*◌, ◌/◌, ◌%◌, Bool, true, false, ◌||◌, nat_le, nat_eq, if◌then◌else◌}
 use Rattle.pdp11_machine.specs.State.{State, Flags, reg, with_reg, not}
 
 abbrev pub differs : Bool → Bool → Bool
@@ -32,8 +32,8 @@ branched low s = with_reg s 7 ((reg s 7 + 2 * low + (if nat_le 128 low then 6502
 -- the flags that bits 3 to 0 name are set or cleared
 abbrev pub with_codes : Bool → ℕ → Flags → Flags
 with_codes set bits f = record {
-    negative = if nat_eq (bits / 8 % 2) 1 then set else f.negative;
-    zero = if nat_eq (bits / 4 % 2) 1 then set else f.zero;
-    overflow = if nat_eq (bits / 2 % 2) 1 then set else f.overflow;
-    carry = if nat_eq (bits % 2) 1 then set else f.carry
-  }
+  negative = if nat_eq (bits / 8 % 2) 1 then set else f.negative;
+  zero = if nat_eq (bits / 4 % 2) 1 then set else f.zero;
+  overflow = if nat_eq (bits / 2 % 2) 1 then set else f.overflow;
+  carry = if nat_eq (bits % 2) 1 then set else f.carry;
+}

@@ -1,6 +1,6 @@
 -- The instructions of two operands: PDP-11/40 Processor Handbook, chapter 4. The source is fetched before the
 -- destination's address is worked out. At a bus trap the flags stay.
-use Rattle.std.specs.Prelude.{◌≡◌, ℕ, ◌+◌, ◌-◌, ◌%◌, Bool, true, false, nat_lt, nat_le, nat_eq, if◌then◌else◌, Option, Some, None}
+use Rattle.std.specs.Prelude.{ℕ, ◌+◌, ◌-◌, ◌%◌, false, nat_lt, nat_le, nat_eq, if◌then◌else◌, Option, Some}
 use Rattle.pdp11_code.specs.declared.instr.Ea.{Ea}
 use Rattle.pdp11_machine.specs.declared.Place.{Place}
 use Rattle.pdp11_machine.specs.State.{State, Flags}

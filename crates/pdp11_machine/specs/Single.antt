@@ -1,5 +1,5 @@
 -- The instructions of one operand: PDP-11/40 Processor Handbook, chapter 4.
-use Rattle.std.specs.Prelude.{◌≡◌, ℕ, Bool, true, false, nat_eq, if◌then◌else◌, Option, Some, None}
+use Rattle.std.specs.Prelude.{ℕ, false, nat_eq, if◌then◌else◌, Option, Some}
 use Rattle.pdp11_code.specs.declared.instr.Ea.{Ea}
 use Rattle.pdp11_machine.specs.State.{State, with_reg}
 use Rattle.pdp11_machine.specs.Operands.{and_then, addressed, placed, stored}

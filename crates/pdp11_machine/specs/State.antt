@@ -1,6 +1,6 @@
 -- What clauses see of a machine, and its smallest parts: the memory, the general registers and the processor status
 -- word of the PDP-11/40 Processor Handbook, chapters 2 and 3.
-use Rattle.std.specs.Prelude.{◌≡◌, ℕ, ◌+◌, ◌-◌, ◌*◌, ◌/◌, ◌%◌, ◌<◌, Bool, true, false, ◌&&◌, nat_lt, nat_eq, if◌then◌else◌, Option, Some, None, List, slice_index, slice_set, replicate}
+use Rattle.std.specs.Prelude.{◌≡◌, ℕ, ◌+◌, ◌*◌, ◌/◌, ◌%◌, ◌<◌, Bool, true, false, ◌&&◌, nat_lt, nat_eq, if◌then◌else◌, Option, Some, None, List, length, slice_index, slice_set, replicate}
 
 pub record Flags : Type 0 where
   pub negative : Bool
@@ -49,6 +49,12 @@ flags_in word = record { negative = nat_eq (word / 8 % 2) 1; zero = nat_eq (word
 
 abbrev pub with_status : State → ℕ → State
 with_status s word = record s { flags = flags_in word; upper = word / 16 }
+
+-- what is so of every machine
+pub record IsMachine (s : State) : Type 0 where
+  pub memory_length : length s.memory ≡ 28672
+  pub register_count : length s.registers ≡ 8
+  pub upper_bits : s.upper < 4096
 
 -- zero memory, registers and status
 unfoldable pub zero_machine : State

@@ -1,8 +1,8 @@
 -- One step of the machine. The vectors of the traps are in decimal: 4 odd address or none there, 8 reserved
 -- instruction, 12 BPT, 24 EMT, 28 TRAP (PDP-11/40 Processor Handbook, chapter 2 and appendix).
-use Rattle.std.specs.Prelude.{◌≡◌, ℕ, Bool, nat_eq, if◌then◌else◌, Option, Some, None, List, [], ◌∷◌}
+use Rattle.std.specs.Prelude.{ℕ, nat_eq, if◌then◌else◌, Option, Some, None, [], ◌∷◌}
 use Rattle.pdp11_code.specs.declared.instr.Instr.{Instr}
-use Rattle.pdp11_code.specs.declared.instr.Instr.TheVariants.{Two, Extended, One, Jsr, Rts, Sob, Branch, Emt, Trap as TrapInstr, Flags as FlagsInstr, Bare}
+use Rattle.pdp11_code.specs.declared.instr.Instr.TheVariants.{Two, One, Branch, Emt, Trap as TrapInstr, Flags as FlagsInstr, Bare}
 use Rattle.pdp11_code.specs.Code.{decoded}
 use Rattle.pdp11_machine.specs.declared.StepEnd.{StepEnd}
 use Rattle.pdp11_machine.specs.declared.StepEnd.TheVariants.{Went, Halted, Trap}

@@ -3,7 +3,7 @@
 #![tactic(auto)]
 
 ghost use Rattle.std.specs.Prelude.{◌≡◌, ℕ, ◌+◌, ◌*◌, ◌/◌, ◌%◌, ◌<◌, IfOk, slice_index, length};
-ghost use Rattle.pdp11_machine.specs.State.{State, Flags, reg, with_reg, with_word, bit_of, status_of, with_status, zero_machine};
+ghost use Rattle.pdp11_machine.specs.State.{State, Flags, IsMachine, reg, with_reg, with_word, bit_of, status_of, with_status, zero_machine};
 ghost use Rattle.pdp11_machine.specs.TakeTrap.{trap_taken};
 ghost use Rattle.pdp11_machine.specs.Step.{machine_step};
 
@@ -13,10 +13,9 @@ mod operands;
 mod single;
 mod step;
 mod take_trap;
-mod words;
-
 #[cfg(test)]
 mod tests;
+mod words;
 
 use dice_base::NoMemory;
 use std::alloc::Global;
@@ -60,7 +59,7 @@ impl Model for Machine {
 
     ghost view = { λ m. record { memory = m.memory.items; registers = m.registers; flags = record { negative = m.negative; zero = m.zero; overflow = m.overflow; carry = m.carry }; upper = m.upper } };
 
-    ghost invariant = { λ m. (length m.memory.items ≡ 28672) × (m.upper < 4096) };
+    ghost invariant = { λ m. (length m.memory.items ≡ 28672) × (length m.registers ≡ 8) × (m.upper < 4096) };
 }
 
 impl Machine {
@@ -84,7 +83,8 @@ impl Machine {
     pub fn peek(&self, place: u16) -> u16
         requires even { place % 2 ≡ 0 }
         requires inside { place < 57344 }
-        ensures { result ≡ slice_index self.now.memory (place / 2) }
+        ensures word { result ≡ slice_index self.now.memory (place / 2) }
+        ensures machine { IsMachine self.now }
     {
         self.memory[(place / 2) as usize]
     }
@@ -101,7 +101,8 @@ impl Machine {
     /// R0 to R5, SP by 6 and PC by 7.
     pub fn register(&self, number: u8) -> u16
         requires { number < 8 }
-        ensures { result ≡ reg self.now number }
+        ensures word { result ≡ reg self.now number }
+        ensures machine { IsMachine self.now }
     {
         self.registers[number as usize]
     }
@@ -116,7 +117,8 @@ impl Machine {
 
     /// The processor status word.
     pub fn status(&self) -> u16
-        ensures { result ≡ status_of self.now }
+        ensures word { result ≡ status_of self.now }
+        ensures machine { IsMachine self.now }
     {
         16 * self.upper
             + 8 * bit(self.negative)

@@ -1,4 +1,4 @@
-use Rattle.std.proofs.Common.{◌≡◌, ℕ, List, ap, refl, ◌∙◌, false, [], ◌∷◌}
+use Rattle.std.proofs.Common.{ℕ, List, ap, false, [], ◌∷◌}
 use Rattle.pdp11_machine.specs.State.{State, zero_machine}
 use Rattle.pdp11_machine.proofs.Machine.new.Goals as goal
 
