@@ -1,13 +1,23 @@
 -- When a machine stands for a state of the plain machine, in four parts: the code's place and the status; the variables;
 -- the frames; the console. All places are word numbers, and the machine's stack and program stand at whole words.
-use Rattle.std.specs.Prelude.{◌≡◌, ℕ, ◌+◌, ◌≤◌, ◌<◌, List, [], ◌∷◌, length, slice_index, Option, Some, None}
-use Rattle.console_service.specs.Cpu.{Cpu, code_begin, globals_begin, memory_end}
-use Rattle.code_image.specs.Block.{Gate, End, Block}
+use Rattle.std.specs.Prelude.{◌≡◌, ℕ, ◌+◌, ◌≤◌, false, List, [], ◌∷◌, length, slice_index, Option, Some, None}
+use Rattle.console_service.specs.Run.{gate_here}
+use Rattle.console_service.specs.Cpu.{Cpu, state_of, code_begin, globals_begin, memory_end}
+use Rattle.code_image.specs.Block.{First, Gate, Block}
 use Rattle.code_image.specs.Image.{InWords, end_word, trap_word}
 use Rattle.image_plan.specs.Links.{program_name}
 use Rattle.pascal_semantics.specs.State.{Status, NotStarted, Halted, Ended, Failed, Activation, State}
 use Rattle.statement_code.specs.Gives.{HasGlobals}
 use Rattle.statement_code.specs.Forms.{HasFrame}
+
+-- the machine stands at the begin of the program's block, at byte 512, where no gate stands
+pub record AtBegin (block : Option Block) (c : Cpu) : Type 0 where
+  pub lies : Block
+  pub is : block ≡ Some lies
+  pub begin : lies.part_at First ≡ Some 0
+  pub place : c.pc ≡ lies.place
+  pub at : c.pc ≡ code_begin
+  pub no_gate : gate_here (state_of c) ≡ false
 
 -- the machine stands at the gate of a block, its first word
 pub record AtGate (block : Option Block) (c : Cpu) : Type 0 where
@@ -33,7 +43,7 @@ AtNewest blocks (a ∷ older) c = (a.frames ≡ []) × AtGate (blocks a.statemen
 -- behind the word that ended the program, EMT 0 of the program's block; behind TRAP E in the block of the statement in
 -- error
 abbrev pub StandsAt : (ℕ → Option Block) → Status → List Activation → Cpu → Type 0
-StandsAt blocks NotStarted activations c = c.pc ≡ code_begin
+StandsAt blocks NotStarted activations c = AtBegin (blocks program_name) c
 StandsAt blocks Halted activations c = AtNewest blocks activations c
 StandsAt blocks Ended activations c = Behind (blocks program_name) end_word c
 StandsAt blocks (Failed error name) activations c = Behind (blocks name) (trap_word error) c

@@ -8,7 +8,7 @@ use Rattle.console_service.specs.Cpu.{Cpu, state_of, memory_end}
 use Rattle.code_image.specs.Block.{Block}
 use Rattle.code_image.specs.Image.{HasImage}
 use Rattle.image_plan.specs.Links.{program_name, blocks_of}
-use Rattle.image_plan.specs.Load.{placed, place_of}
+use Rattle.image_plan.specs.Load.{placed, place_of, HasParts}
 use Rattle.pascal_semantics.specs.declared.form.SimpleForm.{SimpleForm}
 use Rattle.pascal_semantics.specs.Charge.{program_charge, charges_of}
 use Rattle.pascal_semantics.specs.Program.{Row, row_of, program_of}
@@ -50,5 +50,6 @@ pub record Simulates (fs : List SimpleForm) (s : State) (machine : MachineState)
   pub long : length cpu.mem ≡ memory_end
   pub blocks : ℕ → Option Block
   pub places : (n : ℕ) → placed (blocks n) ≡ place_of fs n
+  pub parts : HasParts blocks
   pub image : HasImage simple (blocks_of (program_of fs)) blocks (λ n. false) cpu.mem
   pub represents : Represents blocks s cpu

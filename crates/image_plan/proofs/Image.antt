@@ -1,19 +1,21 @@
 -- A memory with the words of a whole load holds the program.
-use Rattle.std.proofs.Common.{◌≡◌, ◌≢◌, ℕ, ◌+◌, ◌<◌, ◌≤◌, Bool, true, false, List, [], ◌∷◌, length, map, Option, Some, None, refl, sym, ap, ◌∙◌, subst, arith, length-append, inl, inr, ◌⊎◌}
-use Rattle.std.specs.Prelude.{◌==◌, if◌then◌else◌, find}
+use Rattle.std.proofs.Common.{◌*◌, ◌≡◌, ◌≢◌, ℕ, ◌+◌, ◌*◌, ◌<◌, ◌≤◌, Bool, true, false, List, [], ◌∷◌, length, map, Option, Some, None, refl, sym, ap, ◌∙◌, subst, arith, length-append, inl, inr, ◌⊎◌}
+use Rattle.std.specs.Prelude.{slice_index, ◌==◌, if◌then◌else◌, find}
 use Rattle.std.proofs.lemmas.Bool.{false≢true}
+use Rattle.std.proofs.Math.ListN.{get_or-append}
+use Rattle.std.proofs.lemmas.List.{get_or-set_other}
 use Rattle.dice_base.specs.declared.link.LinkTo.{LinkTo}
 use Rattle.console_service.specs.Cpu.{HasAt, code_begin, globals_begin}
 use Rattle.console_service.proofs.Compose.{has_front, has_back}
 use Rattle.code_image.specs.declared.block.BlockCode.{BlockCode}
 use Rattle.code_image.specs.Block.{Gate, Block, laid, linked, or_zero, place_in, place_of}
-use Rattle.code_image.specs.BlockOf.{block_of, link_of}
+use Rattle.code_image.specs.BlockOf.{block_of, link_of, first_of}
 use Rattle.code_image.specs.Image.{Lies, IsEnd, HasLink}
 use Rattle.pascal_semantics.specs.declared.form.SimpleForm.{SimpleForm}
 use Rattle.pascal_semantics.specs.Charge.{charge_of, program_charge, charges_of}
 use Rattle.pascal_semantics.specs.Program.{Program, Target, Gate as GateOf, Finish, Row, row_of, rows_from, entry_from, program_of, first_name}
 use Rattle.statement_code.specs.Forms.{BlockForm, ProgramBlock, StatementBlock, simple}
-use Rattle.statement_code.specs.Emitted.{IsCodeOf, IsProgramCode, HasLinkWord}
+use Rattle.statement_code.specs.Emitted.{IsNoGate, IsCodeOf, IsProgramCode, HasLinkWord}
 use Rattle.image_plan.specs.Links.{blocks_of, program_name, spot_of, form_of, end_of}
 use Rattle.image_plan.specs.Codes.{AreCodes, laid_to, next_place, statements_laid, first_place, finish_place, image_words, words_in}
 use Rattle.image_plan.specs.Load.{place_from, placed, IsLoad}
@@ -206,6 +208,33 @@ module _ (fs : List SimpleForm) (program : BlockCode) (codes : List BlockCode) (
       by true = ap (λ k. Some (code_begin, k)) is.long
       by false = block_placed first_name (first_place program) fs codes n are ∙ ap (λ k. place_from first_name k fs n) at
 
+  -- a gate is the first word of its block
+  gates_first : (n p : ℕ) (fs : List SimpleForm) (cs : List BlockCode) (m : ℕ) (b : Block) (k : ℕ) → AreCodes fs cs → blocks_from n p cs m ≡ Some b → b.part_at Gate ≡ Some k → k ≡ 0
+  gates_first n p fs [] m b k h e g = absurd (grind (arith, e))
+  gates_first n p [] (c ∷ cs) m b k h e g = absurd h
+  gates_first n p (f ∷ fs) (c ∷ cs) m b k h e g = by (m == n) e (λ x. gates_first (n + 1) (p + length c.words.items) fs cs m b k h.1 x g)
+    where
+      by : (t : Bool) → (if t then Some (block_of p c) else blocks_from (n + 1) (p + length c.words.items) cs m) ≡ Some b → (blocks_from (n + 1) (p + length c.words.items) cs m ≡ Some b → k ≡ 0) → k ≡ 0
+      by true x rest = let same : block_of p c ≡ b = cc x in let y : Some 0 ≡ Some k = sym h.0.1.gate ∙ ap (λ z. z.part_at Gate) same ∙ g in cc y
+      by false x rest = rest x
+
+  all_gates : (n : ℕ) (b : Block) (k : ℕ) → es n ≡ Some b → b.part_at Gate ≡ Some k → k ≡ 0
+  all_gates n b k e g = by (n == program_name) e
+    where
+      by : (t : Bool) → (if t then Some (block_of code_begin program) else blocks_from first_name (first_place program) codes n) ≡ Some b → k ≡ 0
+      by true x = let same : block_of code_begin program ≡ b = cc x in let y : None ≡ Some k = sym parts.gate ∙ ap (λ z. z.part_at Gate) same ∙ g in absurd (grind (arith, y))
+      by false x = gates_first first_name (first_place program) fs codes n b k are x g
+
+  -- the first word is that of the program's block
+  first_word : slice_index (image_words program codes) 0 ≡ slice_index program.words.items 0
+  first_word =
+      let target = next_place (first_place program) fin codes in
+      let link = parts.link in
+      let ne : 0 ≢ link.link.offset = λ h. absurd (omega (arith, h, parts.behind)) in
+      get_or-append (laid_to program target) (statements_laid (first_place program) fin codes) 0 0 (omega (arith, laid_long program target, link.inside))
+      ∙ ap (λ ls. slice_index (linked program.words.items (map link_of ls) (λ to. target)) 0) link.only
+      ∙ get_or-set_other program.words.items link.link.offset 0 (2 * target) 0 ne
+
   pub is_load : (words : List ℕ) → words ≡ image_words program codes → IsLoad fs words
   is_load words e =
       let target = next_place (first_place program) fin codes in
@@ -213,5 +242,7 @@ module _ (fs : List SimpleForm) (program : BlockCode) (codes : List BlockCode) (
         long = ap length e ∙ omega (arith, length-append (laid_to program target) (statements_laid (first_place program) fin codes), laid_long program target, statements_long (first_place program) fin codes, is.long, codes_long fs codes are);
         blocks = es;
         places = all_placed;
+        parts = record { program = block_of code_begin program; entry = program_entry; begin = ap first_of parts.gate; gates = all_gates };
+        first = subst IsNoGate (sym (ap (λ w. slice_index w 0) e ∙ first_word)) parts.first;
         image = λ mem long here. record { each = lies mem (subst (HasAt mem code_begin) e here); only = only; apart = apart };
       }
