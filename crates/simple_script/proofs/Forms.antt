@@ -1,10 +1,9 @@
 -- What is read as a statement is spelled so, and what is spelled so is read.
-use Rattle.std.proofs.Common.{◌≡◌, ◌≢◌, ℕ, zero, suc, ◌+◌, ◌-◌, ◌≤◌, ◌<◌, Bool, true, false, cond, ◌&&◌, nat_le, leb, leb-true, le-leb, List, [], ◌∷◌, ◌++◌, length, get_or, None, Some, IfSome, refl, sym, ap, subst, ◌∙◌, arith, codes, append_assoc, append-nil}
+use Rattle.std.proofs.Common.{◌≡◌, ℕ, zero, suc, ◌≤◌, ◌<◌, Bool, true, false, cond, ◌&&◌, nat_le, leb-true, le-leb, List, [], ◌∷◌, ◌++◌, length, get_or, None, Some, IfSome, refl, sym, ap, subst, ◌∙◌, arith, codes, append_assoc, append-nil}
 use Rattle.std.specs.declared.option.Option.{Option}
 use Rattle.std.specs.Str.{bytes_eq}
 use Rattle.std.specs.List.{AllByRecursion}
-use Rattle.dice_base.specs.declared.token.TokenKind.{TokenKind}
-use Rattle.dice_base.specs.declared.token.TokenKind.TheVariants.{Word, Ident, Number as Numeral, Str, Sign, Hole}
+use Rattle.dice_base.specs.declared.token.TokenKind.TheVariants.{Ident, Number as Numeral, Sign}
 use Rattle.dice_base.specs.Lexemes.{place_of}
 use Rattle.pascal_semantics.specs.declared.form.Operand.{Operand}
 use Rattle.pascal_semantics.specs.declared.form.Operand.TheVariants.{Global, Number}
@@ -85,9 +84,10 @@ second_by vs ts rest y true is e =
     let a = after (r.operand vs) (λ x. r.pure (Some x)) (next ts) y rest e in
     let k = operand-reads vs (next ts) a.1 a.0 a.2 in
     let v : Some a.0 ≡ y = ok_value _ _ _ _ a.3 in
-    let m : a.1 ≡ rest = ok_rest _ _ _ _ a.3 in
-    (subst (λ (o : Option Operand). IfSome o (OperandWithin (length vs))) v k.0,
-      see-reads 0 ts is ∙ ap (λ us. Sign 0 ∷ us) (k.1 ∙ ap (λ us. operand_token vs a.0 ∷ us) m) ∙ ap (λ o. second_tokens vs o ++ rest) v)
+    let m : a.1 ≡ rest = ok_rest _ _ _ _ a.3 in (
+      subst (λ (o : Option Operand). IfSome o (OperandWithin (length vs))) v k.0,
+      see-reads 0 ts is ∙ ap (λ us. Sign 0 ∷ us) (k.1 ∙ ap (λ us. operand_token vs a.0 ∷ us) m) ∙ ap (λ o. second_tokens vs o ++ rest) v,
+    )
 second_by vs ts rest y false is e =
     let v : None ≡ y = ok_value _ _ _ _ e in
     let m : ts ≡ rest = ok_rest _ _ _ _ e in
@@ -110,9 +110,10 @@ sum-reads vs ts rest s e =
     let b = after (r.second vs) (λ y. r.pure (record { first = a.0; second = y })) a.1 s rest a.3 in
     let l = second-reads vs a.1 b.1 b.0 b.2 in
     let v : record { first = a.0; second = b.0 } ≡ s = ok_value _ _ _ _ b.3 in
-    let m : b.1 ≡ rest = ok_rest _ _ _ _ b.3 in
-    (subst (λ (o : Sum). SumWithin (length vs) o) v (record { one = k.0; two = l.0 }),
-      k.1 ∙ ap (λ us. operand_token vs a.0 ∷ us) (l.1 ∙ ap (λ us. second_tokens vs b.0 ++ us) m) ∙ ap (λ o. sum_tokens vs o ++ rest) v)
+    let m : b.1 ≡ rest = ok_rest _ _ _ _ b.3 in (
+      subst (λ (o : Sum). SumWithin (length vs) o) v (record { one = k.0; two = l.0 }),
+      k.1 ∙ ap (λ us. operand_token vs a.0 ∷ us) (l.1 ∙ ap (λ us. second_tokens vs b.0 ++ us) m) ∙ ap (λ o. sum_tokens vs o ++ rest) v,
+    )
 
 sum-takes : (vs : List (List ℕ)) (s : Sum) (rest : Toks) → AllDifferent vs → SumWithin (length vs) s → sees_sign 0 rest ≡ false → r.sum vs (sum_tokens vs s ++ rest) ≡ ok s rest
 unfolding r.sum
@@ -131,9 +132,10 @@ width_by : (ts rest : Toks) (w : Option ℕ) (b : Bool) → sees_sign 17 ts ≡ 
 width_by ts rest w true is e =
     let a = after r.number wide (next ts) w rest e in
     let k = wide_by a.0 a.1 rest w (nat_le 1 a.0) (nat_le a.0 255) refl refl a.3 in
-    let n = number-reads (next ts) a.1 a.0 a.2 in
-    (subst (λ (o : Option ℕ). IfSome o (λ n. (1 ≤ n) × (n ≤ 255))) k.0 (k.1, k.2),
-      see-reads 17 ts is ∙ ap (λ us. Sign 17 ∷ us) (n ∙ ap (λ us. Numeral a.0 ∷ us) k.3) ∙ ap (λ o. width_tokens o ++ rest) k.0)
+    let n = number-reads (next ts) a.1 a.0 a.2 in (
+      subst (λ (o : Option ℕ). IfSome o (λ n. (1 ≤ n) × (n ≤ 255))) k.0 (k.1, k.2),
+      see-reads 17 ts is ∙ ap (λ us. Sign 17 ∷ us) (n ∙ ap (λ us. Numeral a.0 ∷ us) k.3) ∙ ap (λ o. width_tokens o ++ rest) k.0,
+    )
 width_by ts rest w false is e =
     let v : None ≡ w = ok_value _ _ _ _ e in
     let m : ts ≡ rest = ok_rest _ _ _ _ e in
@@ -167,10 +169,11 @@ write-reads vs ts rest s e =
     let three = width-reads a.1 c.1 c.0 c.2 in
     let four : c.1 ≡ Sign 10 ∷ d.1 = sign-reads 10 c.1 d.1 d.2 in
     let v : WriteLine a.0 c.0 ≡ s = ok_value _ _ _ _ d.3 in
-    let m : d.1 ≡ rest = ok_rest _ _ _ _ d.3 in
-    (subst (λ (o : SimpleForm). FormWithin (length vs) o) v (two.0, three.0),
+    let m : d.1 ≡ rest = ok_rest _ _ _ _ d.3 in (
+      subst (λ (o : SimpleForm). FormWithin (length vs) o) v (two.0, three.0),
       ap (λ us. Ident (codes "writeln") ∷ us) (one ∙ ap (λ us. Sign 9 ∷ us) (two.1 ∙ ap (λ us. sum_tokens vs a.0 ++ us) (three.1 ∙ ap (λ us. width_tokens c.0 ++ us) (four ∙ ap (λ us. Sign 10 ∷ us) m)) ∙ sym (write_text vs a.0 c.0 rest)))
-        ∙ ap (λ o. form_tokens vs o ++ rest) v)
+          ∙ ap (λ o. form_tokens vs o ++ rest) v,
+    )
 
 assign-reads : (vs : List (List ℕ)) (x : List ℕ) (ts rest : Toks) (s : SimpleForm) → r.assign_rest vs x ts ≡ ok s rest → FormWithin (length vs) s × (Ident x ∷ ts ≡ form_tokens vs s ++ rest)
 unfolding r.assign_rest
@@ -182,10 +185,11 @@ assign-reads vs x ts rest s e =
     let two : a.1 ≡ Sign 13 ∷ c.1 = sign-reads 13 a.1 c.1 c.2 in
     let three = sum-reads vs c.1 b.1 b.0 c.3 in
     let v : Assign a.0 b.0 ≡ s = ok_value _ _ _ _ b.3 in
-    let m : b.1 ≡ rest = ok_rest _ _ _ _ b.3 in
-    (subst (λ (o : SimpleForm). FormWithin (length vs) o) v (one.0, three.0),
+    let m : b.1 ≡ rest = ok_rest _ _ _ _ b.3 in (
+      subst (λ (o : SimpleForm). FormWithin (length vs) o) v (one.0, three.0),
       ap (λ y. Ident y ∷ ts) (sym one.1) ∙ ap (λ us. Ident (get_or vs a.0 []) ∷ us) (one.2 ∙ two ∙ ap (λ us. Sign 13 ∷ us) (three.1 ∙ ap (λ us. sum_tokens vs b.0 ++ us) m))
-        ∙ ap (λ o. form_tokens vs o ++ rest) v)
+          ∙ ap (λ o. form_tokens vs o ++ rest) v,
+    )
 
 form_by : (vs : List (List ℕ)) (x : List ℕ) (ts rest : Toks) (s : SimpleForm) (b : Bool) → bytes_eq x (codes "writeln") ≡ b → (cond b (r.write_rest vs) (r.assign_rest vs x)) ts ≡ ok s rest
     → FormWithin (length vs) s × (Ident x ∷ ts ≡ form_tokens vs s ++ rest)

@@ -1,15 +1,13 @@
 -- What is read as a program is spelled so, and what is spelled so is read.
-use Rattle.std.proofs.Common.{◌≡◌, ◌≢◌, ℕ, zero, suc, ◌+◌, ◌-◌, ◌≤◌, ◌<◌, Bool, true, false, cond, List, [], ◌∷◌, ◌++◌, length, length-append, None, Some, refl, sym, ap, subst, ◌∙◌, arith, codes, append_assoc, append-nil}
-use Rattle.std.specs.declared.option.Option.{Option}
+use Rattle.std.proofs.Common.{◌≡◌, ◌≢◌, ℕ, zero, suc, ◌+◌, ◌≤◌, Bool, true, false, cond, List, [], ◌∷◌, ◌++◌, length, refl, sym, ap, subst, ◌∙◌, arith, codes, append_assoc, append-nil}
 use Rattle.std.specs.Str.{bytes_eq}
 use Rattle.std.specs.List.{AllByRecursion}
-use Rattle.dice_base.specs.declared.token.TokenKind.{TokenKind}
 use Rattle.dice_base.specs.declared.token.TokenKind.TheVariants.{Word, Ident, Sign}
 use Rattle.pascal_semantics.specs.declared.form.SimpleForm.{SimpleForm}
 use Rattle.simple_script.specs.Program.{Plain, more_idents, ident_list, form_list, spelled, AllDifferent, IsFree, FormWithin, IsSimple}
 use Rattle.simple_script.specs.Reading as r
 use Rattle.simple_script.specs.Reading.{Toks, Outcome, Reader, and_then, ◌>>=◌, ◌>>◌, sees_sign, next, is_new, if_new, if_same}
-use Rattle.simple_script.proofs.Steps.{ok, ok_value, ok_rest, passed, failed, after, step, sign-reads, sign-takes, word-reads, word-takes, ident-reads, ident-takes, see-reads, see-takes, next-sign, bytes-equal, bytes-same}
+use Rattle.simple_script.proofs.Steps.{ok, ok_value, ok_rest, passed, after, step, sign-reads, sign-takes, word-reads, word-takes, ident-reads, ident-takes, see-reads, see-takes, next-sign, bytes-equal}
 use Rattle.simple_script.proofs.Places.{new-reads, new-takes, all-push, different-push, different-middle}
 use Rattle.simple_script.proofs.Forms.{forms-reads, forms-takes}
 
@@ -153,11 +151,11 @@ variables-reads ts rest vs e =
     let v : a.0 ≡ vs = ok_value _ _ _ _ c.3 in
     let m : c.1 ≡ rest = ok_rest _ _ _ _ c.3 in
     let tail : a.1 ≡ Sign 17 ∷ Ident (codes "integer") ∷ Sign 16 ∷ rest =
-      sign-reads 17 a.1 f.1 f.2 ∙ ap (λ us. Sign 17 ∷ us) (integer-reads f.1 d.1 f.3 ∙ ap (λ us. Ident (codes "integer") ∷ us) (sign-reads 16 d.1 c.1 d.3 ∙ ap (λ us. Sign 16 ∷ us) m)) in
+    sign-reads 17 a.1 f.1 f.2 ∙ ap (λ us. Sign 17 ∷ us) (integer-reads f.1 d.1 f.3 ∙ ap (λ us. Ident (codes "integer") ∷ us) (sign-reads 16 d.1 c.1 d.3 ∙ ap (λ us. Sign 16 ∷ us) m)) in
     let whole : ts ≡ Word 32 ∷ (ident_list a.0 ++ Sign 17 ∷ Ident (codes "integer") ∷ Sign 16 ∷ rest) =
-      word-reads 32 ts b.1 b.2 ∙ ap (λ us. Word 32 ∷ us) (k.4 ∙ ap (λ us. ident_list a.0 ++ us) tail) in
+    word-reads 32 ts b.1 b.2 ∙ ap (λ us. Word 32 ∷ us) (k.4 ∙ ap (λ us. ident_list a.0 ++ us) tail) in
     subst (λ (ws : List (List ℕ)). (1 ≤ length ws) × (length ws ≤ 64) × AllDifferent ws × AllByRecursion IsFree ws × (ts ≡ Word 32 ∷ (ident_list ws ++ Sign 17 ∷ Ident (codes "integer") ∷ Sign 16 ∷ rest))) v
-      (k.0, k.1, k.2, k.3, whole)
+    (k.0, k.1, k.2, k.3, whole)
 
 colon_no_comma : (rest : Toks) → sees_sign 15 (Sign 17 ∷ rest) ≡ false
 unfolding sees_sign
@@ -188,7 +186,7 @@ body-reads vs ts rest ss e =
     let tail : a.1 ≡ Word 9 ∷ Sign 14 ∷ rest = word-reads 9 a.1 d.1 d.2 ∙ ap (λ us. Word 9 ∷ us) (sign-reads 14 d.1 c.1 d.3 ∙ ap (λ us. Sign 14 ∷ us) m) in
     let whole : ts ≡ Word 2 ∷ (form_list vs a.0 ++ Word 9 ∷ Sign 14 ∷ rest) = word-reads 2 ts b.1 b.2 ∙ ap (λ us. Word 2 ∷ us) (k.3 ∙ ap (λ us. form_list vs a.0 ++ us) tail) in
     subst (λ (ws : List SimpleForm). (1 ≤ length ws) × (length ws ≤ 100) × AllByRecursion (FormWithin (length vs)) ws × (ts ≡ Word 2 ∷ (form_list vs ws ++ Word 9 ∷ Sign 14 ∷ rest))) v
-      (k.0, k.1, k.2, whole)
+    (k.0, k.1, k.2, whole)
 
 end_no_plus : (rest : Toks) → sees_sign 0 (Word 9 ∷ rest) ≡ false
 unfolding sees_sign
@@ -220,8 +218,8 @@ program-reads ts p e =
     let m : c.1 ≡ [] = ok_rest _ _ _ _ c.3 in
     let two = variables-reads a.1 b.1 b.0 b.2 in
     let three = body-reads b.0 b.1 c.1 c.0 c.2 in
-    subst (λ (q : Plain). IsSimple q × (ts ≡ spelled q)) v
-      (record {
+    subst (λ (q : Plain). IsSimple q × (ts ≡ spelled q)) v (
+      record {
         some_variables = two.0;
         few_variables = two.1;
         different = two.2;
@@ -231,15 +229,16 @@ program-reads ts p e =
         within = three.2;
       },
       heading-reads ts a.1 a.0 a.2 ∙ ap (λ us. Word 24 ∷ Ident a.0 ∷ Sign 16 ∷ us) (two.4
-        ∙ ap (λ us. Word 32 ∷ (ident_list b.0 ++ Sign 17 ∷ Ident (codes "integer") ∷ Sign 16 ∷ us)) (three.3 ∙ ap (λ us. Word 2 ∷ (form_list b.0 c.0 ++ Word 9 ∷ Sign 14 ∷ us)) m)))
+          ∙ ap (λ us. Word 32 ∷ (ident_list b.0 ++ Sign 17 ∷ Ident (codes "integer") ∷ Sign 16 ∷ us)) (three.3 ∙ ap (λ us. Word 2 ∷ (form_list b.0 c.0 ++ Word 9 ∷ Sign 14 ∷ us)) m)),
+    )
 
 pub program-takes : (p : Plain) → IsSimple p → r.program (spelled p) ≡ ok p []
 unfolding r.program
 program-takes p h =
     let last = Word 2 ∷ (form_list p.variables p.statements ++ Word 9 ∷ Sign 14 ∷ []) in
     step r.heading (λ x. r.variables >>= (λ vs. r.body vs >>= (λ ss. r.pure (record { ident = x; variables = vs; statements = ss })))) _ _ _
-      (heading-takes p.ident (Word 32 ∷ (ident_list p.variables ++ Sign 17 ∷ Ident (codes "integer") ∷ Sign 16 ∷ last)))
+    (heading-takes p.ident (Word 32 ∷ (ident_list p.variables ++ Sign 17 ∷ Ident (codes "integer") ∷ Sign 16 ∷ last)))
     ∙ step r.variables (λ vs. r.body vs >>= (λ ss. r.pure (record { ident = p.ident; variables = vs; statements = ss }))) _ _ _
-      (variables-takes p.variables last h.some_variables h.few_variables h.different h.free)
+    (variables-takes p.variables last h.some_variables h.few_variables h.different h.free)
     ∙ step (r.body p.variables) (λ ss. r.pure (record { ident = p.ident; variables = p.variables; statements = ss })) _ _ _
-      (body-takes p.variables p.statements [] h.different h.free h.some_statements h.few_statements h.within)
+    (body-takes p.variables p.statements [] h.different h.free h.some_statements h.few_statements h.within)

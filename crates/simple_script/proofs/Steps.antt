@@ -1,11 +1,9 @@
 -- Steps of reading, forwards and backwards.
-use Rattle.std.proofs.Common.{◌≡◌, ℕ, zero, suc, ◌+◌, ◌-◌, ◌≤◌, ◌<◌, Bool, true, false, cond, ◌==◌, nat_le, leb, leb-true, List, [], ◌∷◌, ◌++◌, length, get_or, None, Some, refl, sym, ap, subst, ◌∙◌, arith, eqb, eqb-true, eq-eqb}
-use Rattle.std.specs.declared.option.Option.{Option}
+use Rattle.std.proofs.Common.{◌≡◌, ℕ, Bool, true, false, cond, ◌==◌, List, [], ◌∷◌, None, Some, refl, sym, ap, ◌∙◌, eqb-true, eq-eqb}
 use Rattle.std.proofs.lemmas.Slice.Eq.{bytes_eq-Decides}
 use Rattle.std.specs.Str.{bytes_eq}
-use Rattle.dice_base.specs.declared.token.TokenKind.{TokenKind}
 use Rattle.dice_base.specs.declared.token.TokenKind.TheVariants.{Word, Ident, Number as Numeral, Str, Sign, Hole}
-use Rattle.simple_script.specs.Reading.{Toks, Outcome, Reader, and_then, ◌>>=◌, next, is_sign, sees_sign, is_word, sees_word, sign, word, ident_of, ident, number_of, number}
+use Rattle.simple_script.specs.Reading.{Toks, Outcome, Reader, and_then, ◌>>=◌, next, sees_sign, sees_word, sign, word, ident, number}
 
 abbrev pub ok : {A : Type 0} → A → Toks → Outcome A
 ok a ts = Some (a, ts)

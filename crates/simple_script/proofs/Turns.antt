@@ -1,7 +1,7 @@
 -- The turns of the loops over lists.
-use Rattle.std.proofs.Common.{◌≡◌, ℕ, zero, suc, ◌+◌, ◌-◌, ◌≤◌, ◌<◌, true, false, cond, List, [], ◌∷◌, ◌++◌, None, Some, refl, sym, ap, ◌∙◌, arith}
+use Rattle.std.proofs.Common.{◌≡◌, ℕ, zero, suc, ◌+◌, ◌-◌, ◌≤◌, ◌<◌, true, false, List, [], ◌∷◌, ◌++◌, Some, refl, arith}
 use Rattle.pascal_semantics.specs.declared.form.SimpleForm.{SimpleForm}
-use Rattle.simple_script.specs.Reading.{Toks, Outcome, ◌>>=◌, and_then, sees_sign, next, form, forms_from, name, names_from}
+use Rattle.simple_script.specs.Reading.{Toks, ◌>>=◌, sees_sign, next, form, forms_from, name, names_from}
 
 forms_suc : (vs : List (List ℕ)) (m n : ℕ) (found : List SimpleForm) (ts : Toks) → m ≡ suc n → sees_sign 16 ts ≡ true →
     forms_from vs m found ts ≡ (form vs >>= (λ s. forms_from vs n (found ++ s ∷ []))) (next ts)

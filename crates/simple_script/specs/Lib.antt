@@ -1,3 +1,4 @@
+pub mod Body
 pub mod Borrowed
 pub mod Program
 pub mod Reading

@@ -1,6 +1,6 @@
 -- Simple programs as Pascal programs (ISO 7185:1990, 6.2.1 blocks, 6.5.1 variables, 6.8.2.2 assignment, 6.9.5 writeln).
-use Rattle.std.specs.Prelude.{◌≡◌, ◌≢◌, ℕ, ◌<◌, ◌≤◌, List, [], ◌∷◌, ◌++◌, length, slice_index_or, codes, None, Some, IfSome}
-use Rattle.std.specs.List.{AllByRecursion, flat_map}
+use Rattle.std.specs.Prelude.{◌≢◌, ℕ, ◌<◌, ◌≤◌, List, [], ◌∷◌, ◌++◌, length, slice_index_or, codes, None, Some, IfSome}
+use Rattle.std.specs.List.{AllByRecursion}
 use Rattle.std.specs.declared.option.Option.{Option}
 use Rattle.dice_base.specs.declared.token.TokenKind.{TokenKind}
 use Rattle.dice_base.specs.declared.token.TokenKind.TheVariants.{Word, Ident, Number as Numeral, Sign}
@@ -105,8 +105,8 @@ form_list variables (s ∷ ss) = form_tokens variables s ++ more_forms variables
 abbrev pub spelled : Plain → List TokenKind
 spelled p =
     program_word ∷ Ident p.ident ∷ semicolon_sign ∷ var_word ∷ (ident_list p.variables
-      ++ colon_sign ∷ Ident (codes "integer") ∷ semicolon_sign ∷ begin_word ∷ (form_list p.variables p.statements
-        ++ end_word ∷ period_sign ∷ []))
+    ++ colon_sign ∷ Ident (codes "integer") ∷ semicolon_sign ∷ begin_word ∷ (form_list p.variables p.statements
+    ++ end_word ∷ period_sign ∷ []))
 
 -- ---- which programs are simple
 

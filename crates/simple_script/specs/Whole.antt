@@ -19,3 +19,9 @@ abbrev pub FollowsProgram : Outcome Plain → Result SimpleProgram Stop → Toks
 FollowsProgram outcome (Ok p) new = outcome ≡ Some (plain p, new)
 FollowsProgram outcome (Err Memory) new = Unit {0}
 FollowsProgram outcome (Err Unreadable) new = outcome ≡ None
+
+-- this program, unless memory ran out
+abbrev pub IsUnlessMemory : Result SimpleProgram Stop → Plain → Type 0
+IsUnlessMemory (Ok p) q = plain p ≡ q
+IsUnlessMemory (Err Memory) q = Unit {0}
+IsUnlessMemory (Err Unreadable) q = ⊥

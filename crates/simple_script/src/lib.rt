@@ -4,5 +4,7 @@
 mod cursor;
 mod program;
 mod reader;
+mod script;
 
 pub use program::SimpleProgram;
+pub use script::read_script;

@@ -1,34 +1,48 @@
 //! A simple program from its tokens.
-ghost use Rattle.std.specs.Prelude.{◌≡◌, ◌≤◌, List, length, IfOk, vec_len};
+ghost use Rattle.std.specs.Prelude.{◌≡◌, ◌≤◌, List, length, map, IfOk, vec_len};
 ghost use Rattle.dice_base.specs.declared.token.TokenKind.{TokenKind};
 ghost use Rattle.dice_base.specs.Lexemes.{place_of};
 ghost use Rattle.simple_script.specs.Reading as reading;
 ghost use Rattle.simple_script.specs.Reading.{Follows};
-ghost use Rattle.simple_script.specs.Whole.{FollowsItems, FollowsProgram};
+ghost use Rattle.simple_script.specs.Program.{Plain, plain, spelled, IsSimple};
+ghost use Rattle.simple_script.specs.Whole.{FollowsItems, FollowsProgram, IsUnlessMemory};
 
 use crate::SimpleProgram;
 use crate::cursor::{Cursor, Stop};
-use dice_base::Text;
+use dice_base::{Text, Token};
 use pascal_semantics::{Operand, SimpleForm, Sum};
 use std::alloc::Global;
 
 const BEGIN: u8 = 2;
+
 const END: u8 = 9;
+
 const PROGRAM: u8 = 24;
+
 const VAR: u8 = 32;
 
 const PLUS: u8 = 0;
+
 const OPEN: u8 = 9;
+
 const CLOSE: u8 = 10;
+
 const BECOMES: u8 = 13;
+
 const PERIOD: u8 = 14;
+
 const COMMA: u8 = 15;
+
 const SEMICOLON: u8 = 16;
+
 const COLON: u8 = 17;
 
 const MAX_INTEGER: u16 = 32_767;
+
 const MAX_WIDTH: u16 = 255;
+
 const MAX_VARIABLES: usize = 64;
+
 const MAX_STATEMENTS: usize = 100;
 
 // The number of the variable with this identifier.
@@ -296,4 +310,22 @@ fn read_whole(alloc: Global, tokens: &mut Cursor<'_>) -> Result<SimpleProgram, S
         variables,
         statements,
     })
+}
+
+/// The simple program that the tokens are.
+pub fn read_program(alloc: Global, tokens: &[Token]) -> Result<SimpleProgram, Stop>
+    ensures some { IfOk result (λ p. IsSimple (plain p) × (map (λ t. t.kind) tokens.now ≡ spelled (plain p))) }
+    ensures only { (q : Plain) → IsSimple q → map (λ t. t.kind) tokens.now ≡ spelled q → IsUnlessMemory result q }
+{
+    let mut cursor = Cursor::new(tokens);
+    match read_whole(alloc, &mut cursor) {
+        Ok(program) => {
+            if cursor.is_empty() {
+                Ok(program)
+            } else {
+                Err(Stop::Unreadable)
+            }
+        }
+        Err(stop) => Err(stop),
+    }
 }
