@@ -42,6 +42,7 @@ fn counts_gates(rt: HostRuntime) -> Result<(), Fail> {
     for (words, gates, end, passed, pc) in cases {
         let mut machine = machine_with(rt.alloc(), &words)?;
         let mut console = Console::new(rt.alloc())?;
+        assert!(rt; gates >= 1);
         let went = go(&mut machine, &mut console, gates);
         assert_eq!(rt; went, Went { end, passed }, "{words:?} for {gates}");
         assert_eq!(rt; machine.register(7), pc, "{words:?} for {gates}");
