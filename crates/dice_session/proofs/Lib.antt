@@ -2,3 +2,4 @@ pub mod Stages
 pub mod Good
 pub mod Go
 pub mod After
+pub mod Loaded

@@ -1,6 +1,6 @@
 -- The simulation relation of a session: the machine's memory holds the present program, and the machine stands for its
 -- state.
-use Rattle.std.specs.Prelude.{◌≡◌, ℕ, ◌≤◌, false, List, [], ◌∷◌, length, Option, Some}
+use Rattle.std.specs.Prelude.{◌≡◌, ℕ, ◌≤◌, false, List, [], ◌∷◌, ◌++◌, length, Option, Some}
 use Rattle.std.specs.List.{AllByRecursion}
 use Rattle.pdp11_machine.specs.State.{State as MachineState}
 use Rattle.console_service.specs.Console.{ConsoleState}
@@ -15,6 +15,8 @@ use Rattle.pascal_semantics.specs.Program.{Row, row_of, program_of}
 use Rattle.pascal_semantics.specs.State.{Status, NotStarted, Halted, Activation, State}
 use Rattle.statement_code.specs.Code.{IsForm}
 use Rattle.statement_code.specs.Forms.{simple}
+use Rattle.pascal_semantics.specs.Run.{run_of}
+use Rattle.dice_session.specs.World.{run_reply}
 use Rattle.dice_session.specs.Represents.{Represents}
 
 -- the programs that are built: 1 to 100 statements
@@ -53,3 +55,20 @@ pub record Simulates (fs : List SimpleForm) (s : State) (machine : MachineState)
   pub parts : HasParts blocks
   pub image : HasImage simple (blocks_of (program_of fs)) blocks (λ n. false) cpu.mem
   pub represents : Represents blocks s cpu
+
+-- the machine stands for the state, with any console that is drained
+abbrev pub StandsFor : List SimpleForm → State → MachineState → Type 0
+StandsFor fs s machine = (console : ConsoleState) → console.output ≡ [] → Simulates fs s machine console
+
+-- a state that a run can go on from, and a machine that stands for it
+pub record CanRunFrom (fs : List SimpleForm) (s : State) (machine : MachineState) (console : ConsoleState) : Type 0 where
+  pub formed : IsWellFormed fs s
+  pub can : CanRun s
+  pub stands : Simulates fs s machine console
+
+-- the run of so many gates was told, and the machine stands for the state that it left
+pub record Ran (fs : List SimpleForm) (gates : ℕ) (s : State) (before after : List ℕ) (machine : MachineState) (console : ConsoleState) : Type 0 where
+  pub told : after ≡ before ++ run_reply (run_of (program_of fs) gates s)
+  pub stands : StandsFor fs (run_of (program_of fs) gates s) machine
+  pub drained : console.output ≡ []
+  pub formed : IsWellFormed fs (run_of (program_of fs) gates s)

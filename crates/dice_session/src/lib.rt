@@ -1,2 +1,10 @@
-//! The session: the present program, loaded and run on the machine, and the replies.
+//! The debugger's commands over the target: loading a program, and running it.
 #![tactic(auto)]
+
+mod loading;
+mod place;
+mod reply;
+mod running;
+
+pub use loading::load;
+pub use running::run;

@@ -1,0 +1,50 @@
+//! Running the program.
+ghost use Rattle.std.specs.Prelude.{◌≡◌, ◌≤◌, ◌++◌, [], IfOk, OnOk, OnErr};
+ghost use Rattle.pascal_semantics.specs.State.{State};
+ghost use Rattle.target_monitor.specs.Go.{gone};
+ghost use Rattle.dice_session.specs.World.{written_part};
+ghost use Rattle.dice_session.specs.Places.{ending_told};
+ghost use Rattle.dice_session.specs.Simulates.{IsProgram, CanRunFrom, Ran};
+
+use crate::reply::{push_ending, push_written};
+use console_service::Console;
+use dice_base::{NoMemory, Text};
+use pascal_semantics::SimpleForm;
+use pdp11_machine::Machine;
+use std::alloc::Global;
+use target_monitor::go;
+
+/// How many bytes the console holds.
+const CONSOLE_ROOM: u32 = 65_536;
+
+/// Runs the program over at most so many gates, from a state that it can go on from. The reply, with what was written,
+/// goes behind `out`.
+pub fn run(
+    alloc: Global,
+    forms: &[SimpleForm],
+    gates: u32,
+    machine: &mut Machine,
+    console: &mut Console,
+    out: &mut Text,
+) -> Result<(), NoMemory>
+    requires program { IsProgram forms.now }
+    requires some { 1 ≤ gates }
+    ensures { OnOk result ((s : State) → CanRunFrom forms.now s machine.old console.old → Ran forms.now gates s out.old out.new machine.new console.new) }
+{
+    let went = go(machine, console, gates);
+    let place = (machine.register(7) / 2) as u32;
+    let written = drained(alloc, console)?;
+    push_written(alloc, out, &written)?;
+    push_ending(alloc, out, forms, went.end, place)
+}
+
+// All that was written, which the console then no longer holds.
+fn drained(alloc: Global, console: &mut Console) -> Result<Vec<u8>, NoMemory>
+    ensures written { IfOk result (λ bytes. bytes.items ≡ console.old.output) }
+    ensures empty { OnOk result (console.new.output ≡ []) }
+    ensures kept { OnErr result (console.new ≡ console.old) }
+{
+    let mut bytes = vec![in alloc; 0; (CONSOLE_ROOM - console.free()) as usize]?;
+    console.drain(&mut bytes);
+    Ok(bytes)
+}
