@@ -1,35 +1,37 @@
 -- What a run on the machine leaves: what was written, what is told, and a machine that stands for the plain machine's
 -- state.
-use Rattle.std.proofs.Common.{◌≡◌, ◌≢◌, ℕ, zero, suc, ◌+◌, ◌-◌, ◌*◌, ◌<◌, ◌≤◌, Bool, true, false, List, [], ◌∷◌, ◌++◌, length, Option, Some, None, refl, sym, ap, ◌∙◌, subst, arith}
-use Rattle.std.specs.Prelude.{slice_index, ◌==◌, ◌/◌, nat_lt, nat_eq, if◌then◌else◌, codes}
+use Rattle.std.proofs.Common.{◌≡◌, ℕ, ◌+◌, ◌-◌, ◌*◌, ◌<◌, ◌≤◌, Bool, true, false, List, [], ◌∷◌, ◌++◌, length, Option, Some, None, refl, sym, ap, ◌∙◌, subst, arith}
+use Rattle.std.specs.Prelude.{◌==◌, ◌/◌, nat_lt, nat_eq, if◌then◌else◌, codes}
 use Rattle.std.specs.Fmt.{decimal}
 use Rattle.std.proofs.lemmas.Bool.Decides.{nat_tests}
+use Rattle.std.proofs.lemmas.List.{append_assoc}
 use Rattle.pdp11_machine.specs.State.{State as MachineState, reg}
 use Rattle.console_service.specs.Console.{ConsoleState}
-use Rattle.console_service.specs.Cpu.{Cpu, state_of, code_begin, memory_end}
-use Rattle.target_monitor.specs.declared.gates.GoEnd.{GoEnd}
+use Rattle.console_service.specs.Cpu.{Cpu, code_begin, memory_end}
 use Rattle.target_monitor.specs.declared.gates.GoEnd.TheVariants as end
 use Rattle.target_monitor.specs.declared.gates.Went.{Went}
+use Rattle.target_monitor.specs.Go.{gone}
 use Rattle.simulation.specs.Gates.{told, left_at, run_end}
-use Rattle.code_image.specs.Block.{First, Gate, Block}
+use Rattle.code_image.specs.Block.{Gate, Block}
 use Rattle.code_image.specs.Semantics.{At}
-use Rattle.code_image.specs.Plain.{Program, State, Goes, Ended, Failed}
-use Rattle.code_image.specs.Image.{IsBlock, HasImage, InWords, Before, Represents as BlocksRepresent, passed, end_word, trap_word}
+use Rattle.code_image.specs.Plain.{Program, Goes}
+use Rattle.code_image.specs.Image.{IsBlock, HasImage, InWords, Before, Represents as BlocksRepresent}
 use Rattle.pascal_semantics.specs.declared.form.SimpleForm.{SimpleForm}
 use Rattle.pascal_semantics.specs.Charge.{charge_of, program_charge}
-use Rattle.pascal_semantics.specs.Program.{row_of, program_of, first_name}
+use Rattle.pascal_semantics.specs.Program.{program_of, first_name}
 use Rattle.pascal_semantics.specs.State.{Status, NotStarted, Halted, Ended as IsEnded, Failed as HasFailed, Activation, State as PascalState}
+use Rattle.pascal_semantics.specs.Run.{run_of}
 use Rattle.statement_code.specs.Gives.{HasGlobals}
-use Rattle.statement_code.specs.Forms.{BlockForm, NoCall, Store, HasFrame, simple}
+use Rattle.statement_code.specs.Forms.{BlockForm, Store, HasFrame, simple}
 use Rattle.image_plan.specs.Links.{blocks_of, program_name}
 use Rattle.image_plan.specs.Load.{place_from, place_of, placed, HasParts}
-use Rattle.image_plan.proofs.Laid.{same_test, other_test, is_same}
-use Rattle.dice_session.specs.World.{line, newest_name, ending_of}
+use Rattle.image_plan.proofs.Laid.{is_same}
+use Rattle.dice_session.specs.World.{line, newest_name, ending_of, written_part}
 use Rattle.dice_session.specs.Places.{name_from, name_at, ending_told}
-use Rattle.dice_session.specs.Represents.{AtGate, AtNewest, Behind, StandsAt, FramesStand, Represents}
-use Rattle.dice_session.specs.Simulates.{IsProgram, IsAtStatement, IsWellFormed, IsWellFormedBy, Simulates}
-use Rattle.dice_session.proofs.Stages.{store_of, stage_by, stage_of, unmarked, HasRun, HasRunBy}
-use Rattle.dice_session.proofs.Go.{Gone}
+use Rattle.dice_session.specs.Represents.{AtGate, AtNewest, StandsAt, FramesStand}
+use Rattle.dice_session.specs.Simulates.{IsProgram, IsWellFormed, IsWellFormedBy, Simulates, CanRunFrom, Ran}
+use Rattle.dice_session.proofs.Stages.{store_of, stage_by, stage_of, unmarked, HasRunBy}
+use Rattle.dice_session.proofs.Go.{Gone, run_gone}
 
 -- ---- the name of a place
 
@@ -47,7 +49,7 @@ abbrev or_second : Option (ℕ × ℕ) → ℕ
 or_second None = 0
 or_second (Some p) = p.1
 
-parts_of : (a b c d : ℕ) → ◌≡◌ {A = Option (ℕ × ℕ)} (Some (a, b)) (Some (c, d)) → (a ≡ c) × (b ≡ d)
+pub parts_of : (a b c d : ℕ) → ◌≡◌ {A = Option (ℕ × ℕ)} (Some (a, b)) (Some (c, d)) → (a ≡ c) × (b ≡ d)
 parts_of a b c d e = (ap (λ o. or_first o) e, ap (λ o. or_second o) e)
 
 record Named (n p : ℕ) (fs : List SimpleForm) (m q at : ℕ) : Type 0 where
@@ -219,4 +221,20 @@ after fs is es gates t r places parts long g = subst (After fs t) (sym g.tells) 
         represents = let s = left.stands k in record { control = s.control; variables = s.variables; frames = s.frames; console = empty };
       };
       formed = formed_by fs t.status t.activations g.formed;
+    }
+
+-- ---- what is said of a run
+
+pub ran : (fs : List SimpleForm) (gates : ℕ) (s : PascalState) (machine : MachineState) (console : ConsoleState) (before after_all : List ℕ) (r : MachineState × ConsoleState × Went) (k : ConsoleState)
+    → IsProgram fs → 1 ≤ gates → r ≡ gone gates machine console → length r.0.memory ≡ memory_end → k.output ≡ []
+    → after_all ≡ (before ++ written_part r.1.output) ++ ending_told fs r.2.end (reg r.0 7 / 2) → CanRunFrom fs s machine console → Ran fs gates s before after_all r.0 k
+ran fs gates s machine console before after_all r k is some same long empty told h =
+    let t = run_of (program_of fs) gates s in
+    let g = run_gone fs is s gates machine console some h.formed h.can h.stands in
+    let a = after fs is h.stands.blocks gates t r h.stands.places h.stands.parts long (subst (Gone fs is h.stands.blocks gates t) (sym same) g) in
+    record {
+      told = told ∙ ap (λ o. (before ++ written_part o) ++ ending_told fs r.2.end (reg r.0 7 / 2)) a.output ∙ ap (λ e. (before ++ written_part t.output) ++ e) a.ending ∙ append_assoc before (written_part t.output) (ending_of t.status t.activations);
+      stands = a.stands;
+      drained = empty;
+      formed = a.formed;
     }

@@ -1,34 +1,28 @@
 -- A run on the machine is the run of the plain machine.
-use Rattle.std.proofs.Common.{◌≡◌, ◌≢◌, ℕ, zero, suc, ◌+◌, ◌-◌, ◌*◌, ◌<◌, ◌≤◌, Bool, true, false, List, [], ◌∷◌, ◌++◌, length, Option, Some, None, refl, sym, ap, ◌∙◌, subst, arith}
-use Rattle.std.specs.Prelude.{slice_index, ◌==◌, if◌then◌else◌}
-use Rattle.std.specs.List.{AllByRecursion}
+use Rattle.std.proofs.Common.{◌≡◌, ℕ, ◌+◌, ◌<◌, ◌≤◌, Bool, true, false, List, [], ◌∷◌, Option, Some, refl, sym, ap, ◌∙◌, subst, arith}
 use Rattle.pdp11_machine.specs.State.{State as MachineState}
 use Rattle.console_service.specs.Console.{ConsoleState}
 use Rattle.console_service.specs.Run.{gate_here}
-use Rattle.console_service.specs.Cpu.{Cpu, state_of, code_begin, globals_begin, memory_end}
-use Rattle.target_monitor.specs.declared.gates.GoEnd.{GoEnd}
-use Rattle.target_monitor.specs.declared.gates.GoEnd.TheVariants as end
+use Rattle.console_service.specs.Cpu.{Cpu, state_of, memory_end}
 use Rattle.target_monitor.specs.declared.gates.Went.{Went}
 use Rattle.target_monitor.specs.Go.{instruction_limit, gone}
-use Rattle.simulation.specs.Gates.{told, left_at, drive_from, gates_from, gates_passed}
+use Rattle.simulation.specs.Gates.{told, drive_from, gates_from, gates_passed}
 use Rattle.simulation.proofs.Go.{go_runs, go_from_runs}
 use Rattle.code_image.specs.Block.{First, Gate, Block}
-use Rattle.code_image.specs.Semantics.{Begin, At, Hanging}
-use Rattle.code_image.specs.Plain.{Program, Now, State, Goes, Ended, Failed, Stuck, IsLive, is_gate, unless, ends_run, begun_at, stretch, next, settle, drive, cost, spent, IsGoodState}
-use Rattle.code_image.specs.Image.{HasImage, Before, Represents as BlocksRepresent, passed}
+use Rattle.code_image.specs.Semantics.{At, Hanging}
+use Rattle.code_image.specs.Plain.{Program, Now, State, Goes, IsLive, is_gate, stretch, drive, cost, spent}
+use Rattle.code_image.specs.Image.{HasImage, Represents as BlocksRepresent}
 use Rattle.pascal_semantics.specs.declared.form.SimpleForm.{SimpleForm}
-use Rattle.pascal_semantics.specs.Program.{Program as PascalProgram, Target, Gate as GateOf, Finish, Row, row_of, entry_from, program_of, first_name}
+use Rattle.pascal_semantics.specs.Program.{Program as PascalProgram, Row, row_of, entry_from, program_of, first_name}
 use Rattle.pascal_semantics.specs.State.{Status, NotStarted, Halted, Ended as IsEnded, Failed as HasFailed, State as PascalState}
 use Rattle.pascal_semantics.specs.Run.{driven, started, started_by, run_of}
 use Rattle.pascal_semantics.proofs.Settles.{before_gate}
-use Rattle.statement_code.specs.Code.{IsForm}
-use Rattle.statement_code.specs.Gives.{HasGlobals}
 use Rattle.statement_code.specs.Forms.{BlockForm, ProgramBlock, StatementBlock, NoCall, Store, HasFrame, FrameHolds, Holds, simple}
-use Rattle.image_plan.specs.Links.{blocks_of, program_name, spot_of}
-use Rattle.dice_session.specs.Represents.{AtBegin, AtGate, AtNewest, Behind, StandsAt, FramesStand, Represents}
+use Rattle.image_plan.specs.Links.{blocks_of, program_name}
+use Rattle.dice_session.specs.Represents.{AtBegin, AtGate, AtNewest, StandsAt, FramesStand}
 use Rattle.dice_session.specs.Simulates.{IsProgram, IsWellFormed, IsWellFormedBy, CanRun, CanRunBy, Simulates}
-use Rattle.dice_session.proofs.Stages.{store_of, stage_of, stage_live, unmarked, short, HasRun, HasRunBy, row_named, not_program, form_at, Driven, driven_is}
-use Rattle.dice_session.proofs.Good.{cost_bound, spent_bound, AreWords, HasRoom, GoodNamed, Good, good_fits, good_keeps}
+use Rattle.dice_session.proofs.Stages.{stage_of, stage_live, unmarked, short, HasRun, row_named, not_program, form_at, driven_is}
+use Rattle.dice_session.proofs.Good.{cost_bound, spent_bound, AreWords, GoodNamed, Good, good_fits, good_keeps}
 
 -- what the machine holds does not hang on PC
 holds_on : (d : Store) (hs : List (Hanging NoCall)) (c : Cpu) (q : ℕ) → Holds d hs c → Holds d hs (record c { pc = q })

@@ -1,32 +1,31 @@
 -- What is kept along a run: variables are words, and the output has room for what is still to be written.
-use Rattle.std.proofs.Common.{◌≡◌, ◌≢◌, ℕ, zero, suc, ◌+◌, ◌-◌, ◌*◌, ◌%◌, ◌<◌, ◌≤◌, Bool, true, false, List, [], ◌∷◌, ◌++◌, length, Option, Some, None, refl, sym, ap, ◌∙◌, subst, arith, length-append, inl, inr, ◌⊎◌}
+use Rattle.std.proofs.Common.{◌≡◌, ◌≢◌, ℕ, suc, ◌+◌, ◌-◌, ◌*◌, ◌%◌, ◌<◌, ◌≤◌, Bool, true, false, List, [], ◌∷◌, ◌++◌, length, Option, Some, None, refl, sym, ap, ◌∙◌, subst, arith, length-append, inl, inr, ◌⊎◌}
 use Rattle.std.specs.Prelude.{slice_index, slice_set, ◌==◌, if◌then◌else◌, find}
 use Rattle.std.specs.List.{AllByRecursion}
 use Rattle.std.proofs.lemmas.Bool.{cases_eq}
 use Rattle.std.proofs.lemmas.List.{get_or-set_same, get_or-set_other, set_past}
 use Rattle.std.proofs.lemmas.Bool.{cases_lt}
 use Rattle.dice_base.specs.declared.link.LinkTo.TheVariants.{Next}
-use Rattle.code_image.specs.Block.{Part, First, Gate, Step, End, Leave, Spot}
-use Rattle.code_image.specs.Semantics.{Begin, At, Back, Exit, Out, Over, Fails}
-use Rattle.code_image.specs.Plain.{Program, Pending, Now, State, Goes, Ended, Failed, Stuck, rests, unless, sum_unless, begun_at, moved, stretch, stretch_of, next, cost_of, cost, spent, IsGoodNow, IsGoodState}
+use Rattle.code_image.specs.Block.{First, Gate, Step, End, Leave, Spot}
+use Rattle.code_image.specs.Semantics.{Begin, At, Back}
+use Rattle.code_image.specs.Plain.{Program, Pending, Now, State, Goes, Ended, Failed, Stuck, rests, sum_unless, begun_at, moved, stretch_of, next, cost_of, cost, spent, IsGoodNow, IsGoodState}
 use Rattle.pascal_semantics.specs.declared.form.Operand.{Operand}
 use Rattle.pascal_semantics.specs.declared.form.Operand.TheVariants.{Global, Number}
-use Rattle.pascal_semantics.specs.declared.form.Sum.{Sum}
 use Rattle.pascal_semantics.specs.declared.form.SimpleForm.{SimpleForm}
 use Rattle.pascal_semantics.specs.declared.form.SimpleForm.TheVariants.{Assign, WriteLine}
 use Rattle.pascal_semantics.specs.Charge.{charge_of, operand_charge, second_charge, width_charge}
 use Rattle.pascal_semantics.specs.Program.{Program as PascalProgram, Target, Gate as GateOf, Finish, Row, row_of, rows_from, entry_from, program_of, first_name}
-use Rattle.pascal_semantics.specs.Step.{Result, Value, Error, sum_of, operand_value, width_of, integer_text}
+use Rattle.pascal_semantics.specs.Step.{Result, Value, Error, operand_value, width_of, integer_text}
 use Rattle.pascal_semantics.specs.Outcome.{sum_in, sum_outcome}
 use Rattle.statement_code.specs.Code.{IsOperand, IsSecond, IsSum, IsWidth, IsForm}
 use Rattle.statement_code.specs.Forms.{BlockForm, ProgramBlock, StatementBlock, NoCall, Store, stored, exit_by, outcome_of, block_charge, simple}
-use Rattle.statement_code.proofs.Sums.{sum-is, machine_sum, is_lost}
+use Rattle.statement_code.proofs.Sums.{sum-is, is_lost}
 use Rattle.statement_code.proofs.Texts.{text-is, length_of_text}
 use Rattle.std.proofs.lemmas.Nat.{mod_below}
 use Rattle.std.proofs.Math.Dec.{lit<}
 use Rattle.image_plan.specs.Links.{blocks_of, program_name, spot_of, form_of, end_of}
-use Rattle.image_plan.proofs.Laid.{same_test, other_test, is_same, found_later}
-use Rattle.dice_session.proofs.Stages.{not_program, row_named}
+use Rattle.image_plan.proofs.Laid.{other_test, is_same}
+use Rattle.dice_session.proofs.Stages.{row_named}
 
 -- ---- bounds on steps
 

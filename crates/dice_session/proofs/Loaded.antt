@@ -1,18 +1,25 @@
 -- A machine into which a program was loaded stands for the state before its start.
-use Rattle.std.proofs.Common.{◌≡◌, ◌≢◌, ℕ, zero, suc, ◌+◌, ◌-◌, ◌*◌, ◌<◌, ◌≤◌, ◌⊎◌, inl, inr, Bool, true, false, List, [], ◌∷◌, ◌++◌, length, replicate, Option, Some, None, refl, sym, ap, ◌∙◌, subst, arith, length-set, get_or_past, get_or-replicate, cases_lt}
-use Rattle.std.specs.Prelude.{slice_index, slice_set, ◌/◌}
-use Rattle.std.proofs.lemmas.List.{get_or-set_same, get_or-set_other, length-replicate}
-use Rattle.pdp11_machine.specs.State.{State as MachineState, with_word, zero_machine, Flags}
+use Rattle.std.proofs.Common.{◌≡◌, ◌≢◌, ℕ, ◌+◌, ◌*◌, ◌<◌, ◌≤◌, ◌⊎◌, inl, inr, false, List, [], ◌∷◌, length, replicate, Option, Some, None, refl, sym, ap, ◌∙◌, arith, length-set}
+use Rattle.std.specs.Prelude.{slice_index, slice_set, ◌/◌, nat_eq, ◌||◌}
+use Rattle.std.proofs.lemmas.Bool.Decides.{nat_tests}
+use Rattle.std.proofs.lemmas.List.{get_or-set_same, get_or-set_other, length-replicate, get_or_past, get_or-replicate}
+use Rattle.std.proofs.lemmas.Bool.{cases_lt}
+use Rattle.pdp11_machine.specs.State.{State as MachineState, with_word, zero_machine}
 use Rattle.console_service.specs.Console.{ConsoleState}
 use Rattle.console_service.specs.Run.{gate_here}
 use Rattle.console_service.specs.Cpu.{Cpu, state_of, HasAt, code_begin, globals_begin, memory_end}
 use Rattle.pascal_semantics.specs.declared.form.SimpleForm.{SimpleForm}
-use Rattle.pascal_semantics.specs.Charge.{charge_of, program_charge, charges_of}
-use Rattle.pascal_semantics.specs.Program.{program_of}
+use Rattle.pascal_semantics.specs.Charge.{charge_of, operand_charge, second_charge, width_charge, program_charge, charges_of}
 use Rattle.pascal_semantics.specs.State.{loaded_state}
-use Rattle.image_plan.specs.Load.{IsLoad}
+use Rattle.pascal_semantics.specs.declared.form.SimpleForm.TheVariants.{Assign, WriteLine}
+use Rattle.pascal_semantics.specs.declared.form.Operand.{Operand}
+use Rattle.pascal_semantics.specs.declared.form.Operand.TheVariants.{Global, Number}
+use Rattle.statement_code.specs.Emitted.{IsNoGate}
+use Rattle.image_plan.specs.Links.{program_name}
+use Rattle.dice_session.proofs.After.{parts_of}
+use Rattle.image_plan.specs.Load.{IsLoad, placed}
 use Rattle.dice_session.specs.Places.{poked, ready}
-use Rattle.dice_session.specs.Simulates.{IsProgram, Simulates, StandsFor}
+use Rattle.dice_session.specs.Simulates.{IsProgram, StandsFor}
 
 -- ---- a memory with words written
 
@@ -53,10 +60,88 @@ with_at mem p (w ∷ ws) fits =
     (with_kept (slice_set mem p w) (p + 1) ws p (inl (omega arith)) ∙ get_or-set_same mem p w 0 (omega (arith, fits)),
      with_at (slice_set mem p w) (p + 1) ws (omega (arith, fits, length-set mem p w)))
 
-zeros : (n i : ℕ) → slice_index (replicate n 0) i ≡ 0
+pub zeros : (n i : ℕ) → slice_index (replicate n 0) i ≡ 0
 zeros n i = elim (cases_lt i n) [ inl low ↦ get_or-replicate n i 0 0 low | inr past ↦ get_or_past _ i 0 (rw length-replicate past) ]
 
 -- ---- the machine
 
-loaded_cpu : List ℕ → ConsoleState → Cpu
+abbrev pub loaded_cpu : List ℕ → ConsoleState → Cpu
 loaded_cpu mem k = record { r0 = 0; r1 = 0; r2 = 0; r3 = 0; r4 = 0; r5 = 0; sp = 28672; pc = 256; mem = mem; flags = record { negative = false; zero = false; overflow = false; carry = false }; upper = 0; console = k }
+
+is_loaded : (ws : List ℕ) (k : ConsoleState) → state_of (loaded_cpu (memory_with (replicate 28672 0) 256 ws) k) ≡ (ready (poked zero_machine 256 ws), k)
+unfolding zero_machine
+is_loaded ws k = sym (ap (λ m. (ready m, k)) (poked_memory zero_machine 256 ws))
+
+has_first : (mem : List ℕ) (p : ℕ) (ws : List ℕ) → 1 ≤ length ws → HasAt mem p ws → slice_index mem p ≡ slice_index ws 0
+has_first mem p [] some h = absurd (omega (arith, some))
+has_first mem p (w ∷ ws) some h = h.0
+
+no_gate : (mem : List ℕ) (k : ConsoleState) (w : ℕ) → slice_index mem 256 ≡ w → IsNoGate w → gate_here (state_of (loaded_cpu mem k)) ≡ false
+no_gate mem k w e is =
+    let a : nat_eq w 160 ≡ false = grind (arith, nat_tests, is.no_nop) in let b : nat_eq w 3 ≡ false = grind (arith, nat_tests, is.no_bpt) in
+    ap (λ x. nat_eq x 160 || nat_eq x 3) e ∙ ap (λ x. x || nat_eq w 3) a ∙ b
+
+-- ---- the size of a program
+
+operand_few : (x : Operand) → operand_charge x ≤ 12
+operand_few (Global g) = omega arith
+operand_few (Number n) = omega arith
+
+second_few : (x : Option Operand) → second_charge x ≤ 28
+second_few None = omega arith
+second_few (Some x) = omega (arith, operand_few x)
+
+width_few : (w : Option ℕ) → width_charge w ≤ 4
+width_few None = omega arith
+width_few (Some w) = omega arith
+
+few : (f : SimpleForm) → charge_of f ≤ 84
+few (Assign g e) = omega (arith, operand_few e.first, second_few e.second)
+few (WriteLine e w) = omega (arith, operand_few e.first, second_few e.second, width_few w)
+
+pub charges_few : (fs : List SimpleForm) → charges_of fs ≤ 84 * length fs
+charges_few [] = omega arith
+charges_few (f ∷ fs) = omega (arith, few f, charges_few fs)
+
+-- ---- the whole
+
+pub loaded_stands : (fs : List SimpleForm) (ws : List ℕ) → IsProgram fs → IsLoad fs ws → StandsFor fs loaded_state (ready (poked zero_machine 256 ws))
+loaded_stands fs ws is l k empty = record {
+  cpu = c;
+  is = is_loaded ws k;
+  long = long;
+  blocks = l.blocks;
+  places = l.places;
+  parts = l.parts;
+  image = l.image mem long here;
+  represents = record {
+    control = record { lies = l.parts.program; is = l.parts.entry; begin = l.parts.begin; place = sym at.0; at = refl; no_gate = no_gate mem k (slice_index ws 0) (has_first mem 256 ws (omega (arith, l.long)) here) l.first };
+    variables = record { count = length-replicate {A = ℕ} 4096 0; small = λ n. small n; each = λ n lt. behind (globals_begin + n) (omega arith) ∙ sym (zeros 4096 n) };
+    frames = (refl, λ n le. behind n le);
+    console = empty;
+  };
+}
+  where
+    mem : List ℕ
+    mem = memory_with (replicate 28672 0) 256 ws
+
+    c : Cpu
+    c = loaded_cpu mem k
+
+    long : length mem ≡ memory_end
+    long = with_long (replicate 28672 0) 256 ws ∙ length-replicate {A = ℕ} 28672 0
+
+    most : 256 + length ws ≤ 8688
+    most = omega (arith, l.long, charges_few fs, is.few)
+
+    here : HasAt mem code_begin ws
+    here = with_at (replicate 28672 0) 256 ws (omega (arith, most, length-replicate {A = ℕ} 28672 0))
+
+    behind : (n : ℕ) → globals_begin ≤ n → slice_index mem n ≡ 0
+    behind n le = with_kept (replicate 28672 0) 256 ws n (inr (omega (arith, most, le))) ∙ zeros 28672 n
+
+    small : (n : ℕ) → slice_index (replicate 4096 0) n < 65536
+    small n = omega (arith, zeros 4096 n)
+
+    at : (l.parts.program.place ≡ code_begin) × (length l.parts.program.words ≡ program_charge)
+    at = parts_of l.parts.program.place (length l.parts.program.words) code_begin program_charge (sym (ap placed l.parts.entry) ∙ l.places program_name)

@@ -1,21 +1,20 @@
 -- The plain machine's states as states of the machine of stretches, and its runs as runs of stretches.
-use Rattle.std.proofs.Common.{◌≡◌, ◌≢◌, ℕ, zero, suc, ◌+◌, ◌-◌, ◌*◌, ◌<◌, ◌≤◌, Bool, true, false, List, [], ◌∷◌, ◌++◌, length, Option, Some, None, refl, sym, ap, ◌∙◌, subst, arith}
+use Rattle.std.proofs.Common.{◌≡◌, ℕ, zero, suc, ◌+◌, ◌≤◌, Bool, true, false, List, [], ◌∷◌, Some, refl, sym, ap, ◌∙◌, subst, arith}
 use Rattle.std.specs.Prelude.{◌==◌, if◌then◌else◌, find}
 use Rattle.dice_base.specs.declared.link.LinkTo.{LinkTo}
 use Rattle.dice_base.specs.declared.link.LinkTo.TheVariants.{Next}
-use Rattle.code_image.specs.Block.{First, Gate, End, Spot}
-use Rattle.code_image.specs.Semantics.{Begin, At, Exit}
-use Rattle.code_image.specs.Plain.{Program, Now, State, Goes, Ended, Failed, Stuck, IsLive, rests, unless, ends_run, begun_at, moved, stretch, stretch_of, next, settle, drive}
-use Rattle.simulation.specs.Gates.{drive_from}
+use Rattle.code_image.specs.Block.{First, Gate}
+use Rattle.code_image.specs.Semantics.{At}
+use Rattle.code_image.specs.Plain.{Program, State, Goes, Ended, Failed, IsLive, unless, ends_run, begun_at, moved, stretch_of, next, settle, drive}
 use Rattle.pascal_semantics.specs.declared.form.SimpleForm.{SimpleForm}
 use Rattle.pascal_semantics.specs.declared.form.SimpleForm.TheVariants.{Assign, WriteLine}
 use Rattle.pascal_semantics.specs.Program.{Program as PascalProgram, Target, Gate as GateOf, Finish, Row, row_of, rows_from, entry_from, program_of, first_name}
 use Rattle.pascal_semantics.specs.State.{Status, NotStarted, Halted, Ended as IsEnded, Failed as HasFailed, Activation, State as PascalState}
 use Rattle.pascal_semantics.specs.Step.{Result, Value, Error, small_step}
 use Rattle.pascal_semantics.specs.Outcome.{sum_in, sum_outcome}
-use Rattle.pascal_semantics.specs.Run.{settled, driven, steps_limit, started, run_of, is_over, is_over_by, unless as unless_over}
-use Rattle.pascal_semantics.proofs.Settles.{program_at, before_gate, outcome_state, statement_settles}
-use Rattle.statement_code.specs.Forms.{BlockForm, ProgramBlock, StatementBlock, NoCall, Store, stored, exit_by, outcome_of, simple}
+use Rattle.pascal_semantics.specs.Run.{settled, driven, steps_limit, started, is_over, unless as unless_over}
+use Rattle.pascal_semantics.proofs.Settles.{before_gate, outcome_state, statement_settles}
+use Rattle.statement_code.specs.Forms.{BlockForm, ProgramBlock, StatementBlock, NoCall, Store, stored, exit_by, simple}
 use Rattle.image_plan.specs.Links.{blocks_of, program_name, spot_of, form_of, end_of}
 use Rattle.image_plan.proofs.Laid.{same_test, other_test, found_later}
 use Rattle.dice_session.specs.World.{newest_name}

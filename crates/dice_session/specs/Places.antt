@@ -1,12 +1,12 @@
 -- What the debugger tells from places of the machine, and the words that it writes there.
-use Rattle.std.specs.Prelude.{ℕ, ◌+◌, ◌-◌, ◌*◌, ◌/◌, nat_lt, if◌then◌else◌, List, [], ◌∷◌, ◌++◌, codes}
+use Rattle.std.specs.Prelude.{ℕ, ◌+◌, ◌-◌, ◌*◌, nat_lt, if◌then◌else◌, List, [], ◌∷◌, ◌++◌, codes}
 use Rattle.std.specs.Fmt.{decimal}
 use Rattle.console_service.specs.Cpu.{code_begin}
 use Rattle.pascal_semantics.specs.declared.form.SimpleForm.{SimpleForm}
 use Rattle.pascal_semantics.specs.Charge.{charge_of, program_charge}
 use Rattle.pascal_semantics.specs.Program.{first_name}
 use Rattle.image_plan.specs.Links.{program_name}
-use Rattle.pdp11_machine.specs.State.{State, reg, with_word, with_reg}
+use Rattle.pdp11_machine.specs.State.{State, with_word, with_reg}
 use Rattle.target_monitor.specs.declared.gates.GoEnd.{GoEnd}
 use Rattle.target_monitor.specs.declared.gates.GoEnd.TheVariants.{Counted, AtBreak, Ended, Error}
 use Rattle.dice_session.specs.World.{line}

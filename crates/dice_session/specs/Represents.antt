@@ -1,6 +1,6 @@
 -- When a machine stands for a state of the plain machine, in four parts: the code's place and the status; the variables;
 -- the frames; the console. All places are word numbers, and the machine's stack and program stand at whole words.
-use Rattle.std.specs.Prelude.{◌≡◌, ℕ, ◌+◌, ◌≤◌, false, List, [], ◌∷◌, length, slice_index, Option, Some, None}
+use Rattle.std.specs.Prelude.{◌≡◌, ℕ, ◌+◌, ◌≤◌, false, List, [], ◌∷◌, slice_index, Option, Some}
 use Rattle.console_service.specs.Run.{gate_here}
 use Rattle.console_service.specs.Cpu.{Cpu, state_of, code_begin, globals_begin, memory_end}
 use Rattle.code_image.specs.Block.{First, Gate, Block}

@@ -10,7 +10,6 @@ use Rattle.code_image.specs.Image.{HasImage}
 use Rattle.image_plan.specs.Links.{program_name, blocks_of}
 use Rattle.image_plan.specs.Load.{placed, place_of, HasParts}
 use Rattle.pascal_semantics.specs.declared.form.SimpleForm.{SimpleForm}
-use Rattle.pascal_semantics.specs.Charge.{program_charge, charges_of}
 use Rattle.pascal_semantics.specs.Program.{Row, row_of, program_of}
 use Rattle.pascal_semantics.specs.State.{Status, NotStarted, Halted, Activation, State}
 use Rattle.statement_code.specs.Code.{IsForm}
