@@ -24,3 +24,6 @@ pub use standard::{StdSink, StdSource};
 pub use text::Text;
 pub use token::{SIGNS, Token, TokenKind, WORD_SYMBOLS};
 pub use whole::write_all;
+
+#[cfg(test)]
+mod tests;

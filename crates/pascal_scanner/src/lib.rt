@@ -7,3 +7,6 @@ mod front;
 
 pub use cut::scan;
 pub use fault::ScanFault;
+
+#[cfg(test)]
+mod tests;

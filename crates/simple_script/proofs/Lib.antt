@@ -5,5 +5,6 @@ pub mod Programs
 pub mod Scripts
 pub mod Slices
 pub mod Steps
+pub mod Tokens
 pub mod Turns
 pub mod Wholes

@@ -8,3 +8,6 @@ mod script;
 
 pub use program::SimpleProgram;
 pub use script::read_script;
+
+#[cfg(test)]
+mod tests;
