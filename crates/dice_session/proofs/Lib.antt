@@ -1,3 +1,4 @@
 pub mod Stages
 pub mod Good
 pub mod Go
+pub mod After

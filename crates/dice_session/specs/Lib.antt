@@ -1,3 +1,4 @@
 pub mod World
 pub mod Represents
 pub mod Simulates
+pub mod Places

@@ -1,0 +1,222 @@
+-- What a run on the machine leaves: what was written, what is told, and a machine that stands for the plain machine's
+-- state.
+use Rattle.std.proofs.Common.{◌≡◌, ◌≢◌, ℕ, zero, suc, ◌+◌, ◌-◌, ◌*◌, ◌<◌, ◌≤◌, Bool, true, false, List, [], ◌∷◌, ◌++◌, length, Option, Some, None, refl, sym, ap, ◌∙◌, subst, arith}
+use Rattle.std.specs.Prelude.{slice_index, ◌==◌, ◌/◌, nat_lt, nat_eq, if◌then◌else◌, codes}
+use Rattle.std.specs.Fmt.{decimal}
+use Rattle.std.proofs.lemmas.Bool.Decides.{nat_tests}
+use Rattle.pdp11_machine.specs.State.{State as MachineState, reg}
+use Rattle.console_service.specs.Console.{ConsoleState}
+use Rattle.console_service.specs.Cpu.{Cpu, state_of, code_begin, memory_end}
+use Rattle.target_monitor.specs.declared.gates.GoEnd.{GoEnd}
+use Rattle.target_monitor.specs.declared.gates.GoEnd.TheVariants as end
+use Rattle.target_monitor.specs.declared.gates.Went.{Went}
+use Rattle.simulation.specs.Gates.{told, left_at, run_end}
+use Rattle.code_image.specs.Block.{First, Gate, Block}
+use Rattle.code_image.specs.Semantics.{At}
+use Rattle.code_image.specs.Plain.{Program, State, Goes, Ended, Failed}
+use Rattle.code_image.specs.Image.{IsBlock, HasImage, InWords, Before, Represents as BlocksRepresent, passed, end_word, trap_word}
+use Rattle.pascal_semantics.specs.declared.form.SimpleForm.{SimpleForm}
+use Rattle.pascal_semantics.specs.Charge.{charge_of, program_charge}
+use Rattle.pascal_semantics.specs.Program.{row_of, program_of, first_name}
+use Rattle.pascal_semantics.specs.State.{Status, NotStarted, Halted, Ended as IsEnded, Failed as HasFailed, Activation, State as PascalState}
+use Rattle.statement_code.specs.Gives.{HasGlobals}
+use Rattle.statement_code.specs.Forms.{BlockForm, NoCall, Store, HasFrame, simple}
+use Rattle.image_plan.specs.Links.{blocks_of, program_name}
+use Rattle.image_plan.specs.Load.{place_from, place_of, placed, HasParts}
+use Rattle.image_plan.proofs.Laid.{same_test, other_test, is_same}
+use Rattle.dice_session.specs.World.{line, newest_name, ending_of}
+use Rattle.dice_session.specs.Places.{name_from, name_at, ending_told}
+use Rattle.dice_session.specs.Represents.{AtGate, AtNewest, Behind, StandsAt, FramesStand, Represents}
+use Rattle.dice_session.specs.Simulates.{IsProgram, IsAtStatement, IsWellFormed, IsWellFormedBy, Simulates}
+use Rattle.dice_session.proofs.Stages.{store_of, stage_by, stage_of, unmarked, HasRun, HasRunBy}
+use Rattle.dice_session.proofs.Go.{Gone}
+
+-- ---- the name of a place
+
+below : (a b : ℕ) → a < b → nat_lt a b ≡ true
+below a b lt = grind (arith, nat_tests)
+
+not_below : (a b : ℕ) → b ≤ a → nat_lt a b ≡ false
+not_below a b le = grind (arith, nat_tests)
+
+abbrev or_first : Option (ℕ × ℕ) → ℕ
+or_first None = 0
+or_first (Some p) = p.0
+
+abbrev or_second : Option (ℕ × ℕ) → ℕ
+or_second None = 0
+or_second (Some p) = p.1
+
+parts_of : (a b c d : ℕ) → ◌≡◌ {A = Option (ℕ × ℕ)} (Some (a, b)) (Some (c, d)) → (a ≡ c) × (b ≡ d)
+parts_of a b c d e = (ap (λ o. or_first o) e, ap (λ o. or_second o) e)
+
+record Named (n p : ℕ) (fs : List SimpleForm) (m q at : ℕ) : Type 0 where
+  is : name_from n p fs at ≡ m
+  behind : p ≤ q
+
+named_from : (n p : ℕ) (fs : List SimpleForm) (m q len at : ℕ) → place_from n p fs m ≡ Some (q, len) → q ≤ at → at < q + len → Named n p fs m q at
+unfolding name_from
+named_from n p [] m q len at e lo hi = absurd (grind (arith, e))
+named_from n p (f ∷ fs) m q len at e lo hi = by (m == n) refl e (λ h. named_from (n + 1) (p + charge_of f) fs m q len at h lo hi)
+  where
+    by : (b : Bool) → (m == n) ≡ b → (if b then Some (p, charge_of f) else place_from (n + 1) (p + charge_of f) fs m) ≡ Some (q, len)
+        → (place_from (n + 1) (p + charge_of f) fs m ≡ Some (q, len) → Named (n + 1) (p + charge_of f) fs m q at) → Named n p (f ∷ fs) m q at
+    by true t h rest =
+        let (first, long) = parts_of p (charge_of f) q len h in
+        record { is = ap (λ b. if b then n else name_from (n + 1) (p + charge_of f) fs at) (below at (p + charge_of f) (omega (arith, first, long, hi))) ∙ sym (is_same m n t); behind = omega (arith, first) }
+    by false t h rest =
+        let r = rest h in
+        record { is = ap (λ b. if b then n else name_from (n + 1) (p + charge_of f) fs at) (not_below at (p + charge_of f) (omega (arith, r.behind, lo))) ∙ r.is; behind = omega (arith, r.behind) }
+
+named_at : (fs : List SimpleForm) (m q len at : ℕ) → place_of fs m ≡ Some (q, len) → q ≤ at → at < q + len → name_at fs at ≡ m
+named_at fs m q len at e lo hi = by (m == program_name) refl e
+  where
+    by : (b : Bool) → (m == program_name) ≡ b → (if b then Some (code_begin, program_charge) else place_from first_name (code_begin + program_charge) fs m) ≡ Some (q, len) → name_at fs at ≡ m
+    by true t h =
+        let (first, long) = parts_of code_begin program_charge q len h in
+        ap (λ b. if b then program_name else name_from first_name (code_begin + program_charge) fs at) (below at (code_begin + program_charge) (omega (arith, first, long, hi))) ∙ sym (is_same m program_name t)
+    by false t h =
+        let r = named_from first_name (code_begin + program_charge) fs m q len at h lo hi in
+        ap (λ b. if b then program_name else name_from first_name (code_begin + program_charge) fs at) (not_below at (code_begin + program_charge) (omega (arith, r.behind, lo))) ∙ r.is
+
+-- a word of a block tells the block's name
+name_in : (fs : List SimpleForm) (blocks : ℕ → Option Block) (n : ℕ) (b : Block) (at : ℕ) → ((n : ℕ) → placed (blocks n) ≡ place_of fs n) → blocks n ≡ Some b → InWords b.place b at → name_at fs at ≡ n
+name_in fs blocks n b at places e (lo, hi) = named_at fs n b.place (length b.words) at (sym (places n) ∙ ap placed e) lo hi
+
+-- ---- what a run leaves
+
+pub record After (fs : List SimpleForm) (t : PascalState) (r : MachineState × ConsoleState × Went) : Type 0 where
+  pub output : r.1.output ≡ t.output
+  pub ending : ending_told fs r.2.end (reg r.0 7 / 2) ≡ ending_of t.status t.activations
+  pub stands : (k : ConsoleState) → k.output ≡ [] → Simulates fs t r.0 k
+  pub formed : IsWellFormed fs t
+
+formed_by : (fs : List SimpleForm) (x : Status) (activations : List Activation) → HasRunBy fs x activations → IsWellFormedBy fs x activations
+formed_by fs NotStarted activations h = absurd h
+formed_by fs Halted activations h = h
+formed_by fs IsEnded activations h = tt
+formed_by fs (HasFailed error name) activations h = tt
+
+half : (k : ℕ) → 2 * k / 2 ≡ k
+half k = omega (arith)
+
+-- variables and frame do not hang on PC and the console
+globals_on : (globals : List ℕ) (c : Cpu) (q : ℕ) (k : ConsoleState) → HasGlobals globals c → HasGlobals globals (record c { pc = q; console = k })
+globals_on globals c q k h = record { count = h.count; small = h.small; each = h.each }
+
+frame_on : (c : Cpu) (k : ConsoleState) → HasFrame c → HasFrame (record c { console = k })
+frame_on c k f = record { frame = f.frame; stack = f.stack; back = f.back; caller = f.caller; static_link = f.static_link; charges = f.charges; zeros = f.zeros }
+
+-- a machine stands for a state with this status, whatever is left of its output
+record Stands (es : ℕ → Option Block) (x : Status) (t : PascalState) (c : Cpu) : Type 0 where
+  control : StandsAt es x t.activations c
+  variables : HasGlobals t.globals c
+  frames : FramesStand x c
+
+-- a machine that was left, in parts
+record LeftBy (fs : List SimpleForm) (es : ℕ → Option Block) (gates count : ℕ) (x : Status) (t : PascalState) (c : Cpu) : Type 0 where
+  output : (left_at (stage_by x t) c).console.output ≡ t.output
+  same : (left_at (stage_by x t) c).mem ≡ c.mem
+  ending : ending_told fs (run_end gates count (stage_by x t)) (left_at (stage_by x t) c).pc ≡ ending_of x t.activations
+  stands : (k : ConsoleState) → Stands es x t (record (left_at (stage_by x t) c) { console = k })
+
+stopped_told : (fs : List SimpleForm) (b : Bool) (place n : ℕ) → name_at fs place ≡ n → ending_told fs (if b then end.Counted else end.AtBreak) place ≡ ending_of Halted (record { routine = program_name; statement = n; frames = [] } ∷ [])
+stopped_told fs true place n e = ap (λ m. line (codes "stopped at " ++ decimal m)) e
+stopped_told fs false place n e = ap (λ m. line (codes "stopped at " ++ decimal m)) e
+
+failed_told : (fs : List SimpleForm) (error place n : ℕ) (activations : List Activation) → name_at fs place ≡ n → ending_told fs (end.Error error) (place + 1) ≡ ending_of (HasFailed error n) activations
+failed_told fs error place n activations e = ap (λ m. line (codes "error " ++ (decimal error ++ (codes " at " ++ decimal m)))) (ap (name_at fs) (back place) ∙ e)
+  where
+    back : (place : ℕ) → place + 1 - 1 ≡ place
+    back place = omega (arith)
+
+module _ (fs : List SimpleForm) (es : ℕ → Option Block) (places : (n : ℕ) → placed (es n) ≡ place_of fs n) (parts : HasParts es) where
+  abbrev B : Program BlockForm
+  B = blocks_of (program_of fs)
+
+  name_of : (n : ℕ) (b : Block) (at : ℕ) → es n ≡ Some b → InWords b.place b at → name_at fs at ≡ n
+  name_of n b at e inside = name_in fs es n b at places e inside
+
+  -- at a gate
+  at_gate : (n : ℕ) (d : Store) (c : Cpu) → Before simple B es (record { name = n; start = At Gate; data_now = d; older = [] }) c → AtGate (es n) c
+  at_gate n d c stands =
+      let first = parts.gates n stands.block stands.offset stands.entry stands.start in
+      record { lies = stands.block; is = stands.entry; gate = stands.start ∙ ap Some first; place = omega (arith, first, stands.place) }
+
+  gate_inside : (n : ℕ) (d : Store) (c : Cpu) → HasImage simple B es unmarked c.mem → (stands : Before simple B es (record { name = n; start = At Gate; data_now = d; older = [] }) c) → InWords stands.block.place stands.block c.pc
+  gate_inside n d c image stands =
+      let lies = image.each n stands.form stands.has in
+      let same : lies.block ≡ stands.block = cc (sym lies.entry ∙ stands.entry) in
+      let first = parts.gates n stands.block stands.offset stands.entry stands.start in
+      let some : stands.offset < length stands.block.words = (subst IsBlock same lies.is).gate_in stands.offset stands.start in
+      (omega (arith, stands.place), omega (arith, stands.place, some))
+
+  left_halted : (gates count n : ℕ) (t : PascalState) (c : Cpu) → t.activations ≡ record { routine = program_name; statement = n; frames = [] } ∷ [] → HasImage simple B es unmarked c.mem → BlocksRepresent simple B es (stage_by Halted t) c → LeftBy fs es gates count Halted t c
+  left_halted gates count n t c acts image h =
+      let stands : Before simple B es (record { name = n; start = At Gate; data_now = store_of t true; older = [] }) c = subst (λ a. BlocksRepresent simple B es (Goes (record { name = newest_name a; start = At Gate; data_now = store_of t true; older = [] })) c) acts h in
+      let name = name_of n stands.block c.pc stands.entry (gate_inside n (store_of t true) c image stands) in
+      let at = at_gate n (store_of t true) c stands in
+      record {
+        output = stands.holds.console;
+        same = refl;
+        ending = stopped_told fs (nat_eq count gates) c.pc n name ∙ sym (ap (ending_of Halted) acts);
+        stands = λ k. record {
+          control = subst (λ a. AtNewest es a (record c { console = k })) (sym acts) (refl, record { lies = at.lies; is = at.is; gate = at.gate; place = at.place });
+          variables = globals_on t.globals c c.pc k stands.holds.globals_are;
+          frames = frame_on c k stands.holds.frame;
+        };
+      }
+
+  left_in : (gates count : ℕ) (x : Status) (t : PascalState) (c : Cpu) → HasRunBy fs x t.activations → HasImage simple B es unmarked c.mem → BlocksRepresent simple B es (stage_by x t) c → LeftBy fs es gates count x t c
+  left_in gates count NotStarted t c formed image h = absurd formed
+  left_in gates count Halted t c (n, row, found, acts) image h = left_halted gates count n t c acts image h
+  left_in gates count IsEnded t c formed image h =
+      record {
+        output = h.shows.console;
+        same = refl;
+        ending = refl;
+        stands = λ k. record {
+          control = record { lies = h.block; is = h.entry; at = c.pc; inside = h.inside; place = refl; executed = h.halts.here };
+          variables = globals_on t.globals c (c.pc + 1) k h.shows.globals_are;
+          frames = tt;
+        };
+      }
+  left_in gates count (HasFailed error name) t c formed image h =
+      record {
+        output = h.shows.console;
+        same = refl;
+        ending = failed_told fs error c.pc name t.activations (name_of name h.block c.pc h.entry h.inside);
+        stands = λ k. record {
+          control = record { lies = h.block; is = h.entry; at = c.pc; inside = h.inside; place = refl; executed = h.halts.here };
+          variables = globals_on t.globals c (c.pc + 1) k h.shows.globals_are;
+          frames = tt;
+        };
+      }
+
+-- ---- the whole
+
+pub after : (fs : List SimpleForm) (is : IsProgram fs) (es : ℕ → Option Block) (gates : ℕ) (t : PascalState) (r : MachineState × ConsoleState × Went) → ((n : ℕ) → placed (es n) ≡ place_of fs n) → HasParts es → length r.0.memory ≡ memory_end → Gone fs is es gates t r → After fs t r
+after fs is es gates t r places parts long g = subst (After fs t) (sym g.tells) (left_after (subst (λ r. length r.0.memory ≡ memory_end) g.tells long))
+  where
+    left : LeftBy fs es gates g.count t.status t g.cpu
+    left = left_in fs es places parts gates g.count t.status t g.cpu g.formed g.image g.stands
+
+    c : Cpu
+    c = left_at (stage_of t) g.cpu
+
+    left_after : length c.mem ≡ memory_end → After fs t (told gates g.count (stage_of t) g.cpu)
+    left_after long = record {
+      output = left.output;
+      ending = ap (ending_told fs (run_end gates g.count (stage_of t))) (half c.pc) ∙ left.ending;
+      stands = λ k empty. record {
+        cpu = record c { console = k };
+        is = refl;
+        long = long;
+        blocks = es;
+        places = places;
+        parts = parts;
+        image = subst (HasImage simple (blocks_of (program_of fs)) es unmarked) (sym left.same) g.image;
+        represents = let s = left.stands k in record { control = s.control; variables = s.variables; frames = s.frames; console = empty };
+      };
+      formed = formed_by fs t.status t.activations g.formed;
+    }

@@ -1,0 +1,37 @@
+-- What the debugger tells from places of the machine, and the words that it writes there.
+use Rattle.std.specs.Prelude.{ℕ, ◌+◌, ◌-◌, ◌*◌, ◌/◌, nat_lt, if◌then◌else◌, List, [], ◌∷◌, ◌++◌, codes}
+use Rattle.std.specs.Fmt.{decimal}
+use Rattle.console_service.specs.Cpu.{code_begin}
+use Rattle.pascal_semantics.specs.declared.form.SimpleForm.{SimpleForm}
+use Rattle.pascal_semantics.specs.Charge.{charge_of, program_charge}
+use Rattle.pascal_semantics.specs.Program.{first_name}
+use Rattle.image_plan.specs.Links.{program_name}
+use Rattle.pdp11_machine.specs.State.{State, reg, with_word, with_reg}
+use Rattle.target_monitor.specs.declared.gates.GoEnd.{GoEnd}
+use Rattle.target_monitor.specs.declared.gates.GoEnd.TheVariants.{Counted, AtBreak, Ended, Error}
+use Rattle.dice_session.specs.World.{line}
+
+-- the statement whose block a word number lies in, among those that begin behind `finish`; 0 behind them all
+unfoldable pub name_from : ℕ → ℕ → List SimpleForm → ℕ → ℕ
+name_from name finish [] place = 0
+name_from name finish (f ∷ fs) place = if nat_lt place (finish + charge_of f) then name else name_from (name + 1) (finish + charge_of f) fs place
+
+abbrev pub name_at : List SimpleForm → ℕ → ℕ
+name_at fs place = if nat_lt place (code_begin + program_charge) then program_name else name_from first_name (code_begin + program_charge) fs place
+
+-- what is told of a run that ended so, with PC at this word number
+abbrev pub ending_told : List SimpleForm → GoEnd → ℕ → List ℕ
+ending_told fs Counted place = line (codes "stopped at " ++ decimal (name_at fs place))
+ending_told fs AtBreak place = line (codes "stopped at " ++ decimal (name_at fs place))
+ending_told fs Ended place = line (codes "ended")
+ending_told fs (Error error) place = line (codes "error " ++ (decimal error ++ (codes " at " ++ decimal (name_at fs (place - 1)))))
+ending_told fs other place = []
+
+-- words are written from this word number on
+unfoldable pub poked : State → ℕ → List ℕ → State
+poked m place [] = m
+poked m place (w ∷ ws) = poked (with_word m (2 * place) w) (place + 1) ws
+
+-- the machine before the first run: SP at the end of the memory, PC at the begin of the code
+abbrev pub ready : State → State
+ready m = with_reg (with_reg m 6 57344) 7 512
