@@ -1,5 +1,5 @@
 -- What was read of known bytes.
-use Rattle.std.proofs.Common.{◌≡◌, ℕ, ◌≤◌, inl, inr, Option, Some, None, List, [], ◌++◌, length, sym, ap, ◌∙◌, take_all, append-nil}
+use Rattle.std.proofs.Common.{◌≡◌, ℕ, ◌≤◌, inl, inr, Option, Some, None, List, [], ◌++◌, length, length-take, take, ◌+◌, arith, sym, ap, ◌∙◌, take_all, append-nil}
 use Rattle.std.proofs.lemmas.List.{drop_all}
 use Rattle.std.proofs.Math.Seq.{take-append_seam, drop-append_seam}
 use Rattle.dice_program.specs.Read.{ReadsUpTo, IsFront}
@@ -21,3 +21,13 @@ front limit (Some script) (Some rest) bytes r =
           rw (whole, none) (front-whole limit bytes r.within)
       | inr many ↦ rw (r.took, sym many) (front-full bytes rest)
     ]
+
+-- a text of which the first bytes are fewer than were asked for is these bytes
+pub whole-taken : (limit : ℕ) (text : List ℕ) → length (take (limit + 1) text) ≤ limit → take (limit + 1) text ≡ text
+whole-taken limit text few =
+    let long : length text ≤ limit + 1 = omega (arith, length-take (limit + 1) text, few) in
+    take_all (limit + 1) text long
+
+-- a text that is short is its first bytes
+pub short-taken : (limit : ℕ) (text : List ℕ) → length text ≤ limit → take (limit + 1) text ≡ text
+short-taken limit text short = take_all (limit + 1) text (omega (arith, short))
