@@ -1,2 +1,4 @@
 pub mod Read
 pub mod Status
+pub mod Top
+pub mod Serve

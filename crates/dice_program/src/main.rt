@@ -5,37 +5,38 @@ mod read;
 mod status;
 #[cfg(test)]
 mod tests;
+mod top;
 
-use dice_base::StdSource;
-use read::{ReadEnd, read_bytes};
+use dice_base::{NoMemory, StdSink, StdSource};
+use pdp11_machine::Machine;
 use status::Status;
+use std::env::{Env, args};
+use std::io::ErrorKind;
 use std::process::ExitCode;
-
-// What reading came to, as a status.
-fn status_of(end: ReadEnd) -> Status {
-    match end {
-        ReadEnd::ReadFault => Status::ReadFault,
-        ReadEnd::NoMemory => Status::NoMemory,
-    }
-}
-
-// Reads standard input and writes how many bytes were read.
-fn count_input(rt: &(impl Input + Print + AllocGlobal)) -> Status {
-    let Ok(mut source) = StdSource::new(rt.alloc(), rt) else {
-        return Status::NoMemory;
-    };
-    match read_bytes(rt.alloc(), &mut source) {
-        Ok(bytes) => {
-            let count = bytes.len();
-            match println!(rt; "{count}") {
-                Ok(()) => Status::Done,
-                Err(_) => Status::WriteFault,
-            }
-        }
-        Err(end) => status_of(end),
-    }
-}
+use top::dice11;
 
 fn main(rt: HostRuntime) -> ExitCode {
-    ExitCode::from(count_input(&rt).number())
+    let status = started(&rt).unwrap_or(Status::NoMemory);
+    ExitCode::from(status.number())
+}
+
+// Runs the script on standard input, on a new machine.
+fn started(rt: &(impl Env + Input + Print + AllocGlobal)) -> Result<Status, NoMemory> {
+    let words = words_of(rt)?;
+    let mut source = StdSource::new(rt.alloc(), rt)?;
+    let mut sink = StdSink::new(rt);
+    let mut machine = Machine::new(rt.alloc())?;
+    Ok(dice11(rt.alloc(), &words, &mut source, &mut sink, &mut machine))
+}
+
+// The words behind the program's own name. One that is no text stands for all of them.
+fn words_of(rt: &(impl Env + AllocGlobal)) -> Result<Vec<String>, NoMemory> {
+    match args(rt) {
+        Ok(mut words) => {
+            let _name = words.next();
+            Ok(words.collect(rt.alloc())?)
+        }
+        Err(error) if error.kind() == ErrorKind::OutOfMemory => Err(NoMemory),
+        Err(_) => Ok(vec![in rt.alloc(); String::new(rt.alloc())]?),
+    }
 }
