@@ -1,1 +1,4 @@
 mod Fronts
+pub mod Served
+pub mod Simple
+pub mod Script
