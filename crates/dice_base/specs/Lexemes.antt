@@ -4,32 +4,27 @@
 -- and `#` is a token of its own. Comments (6.1.8), character strings (6.1.7) and the alternative tokens (6.1.9)
 -- are not taken yet: no token is taken where a comment opens.
 use Rattle.std.specs.Prelude.{◌≡◌, ℕ, ◌+◌, ◌*◌, ◌-◌, ◌≤◌, Bool, true, false, ◌&&◌, ◌||◌, ◌==◌, nat_le, if◌then◌else◌, List, [], ◌∷◌, ◌++◌, map, length, Option, Some, None, bytes_eq}
-use Rattle.std.specs.List.{position_from, AllPass}
+use Rattle.std.specs.List.{position_from, AllByRecursion}
+use Rattle.dice_base.specs.declared.byte.ByteClass.{ByteClass}
+use Rattle.dice_base.specs.declared.byte.ByteClass.TheVariants.{Letter, Digit, Separator, Mark}
 use Rattle.dice_base.specs.declared.token.TokenKind.{TokenKind}
 use Rattle.dice_base.specs.declared.token.TokenKind.TheVariants.{Word, Ident, Number, Sign, Hole}
 use Rattle.dice_base.specs.declared.token.TheConstants.{WORD_SYMBOLS, SIGNS}
 
--- what a byte can be in a text, outside comments and strings
-pub data Class : Type 0 where
-  letter : Class
-  digit : Class
-  separator : Class
-  mark : Class
-
 -- the letters of either case; 0 to 9; tab, line feed, carriage return and space; and all others
-abbrev pub class : ℕ → Class
+abbrev pub class : ℕ → ByteClass
 class c =
-    if (nat_le 65 c && nat_le c 90) || (nat_le 97 c && nat_le c 122) then letter
-    else if nat_le 48 c && nat_le c 57 then digit
-    else if c == 9 || c == 10 || c == 13 || c == 32 then separator
-    else mark
+    if (nat_le 65 c && nat_le c 90) || (nat_le 97 c && nat_le c 122) then Letter
+    else if nat_le 48 c && nat_le c 57 then Digit
+    else if c == 9 || c == 10 || c == 13 || c == 32 then Separator
+    else Mark
 
-abbrev pub is_letter : Class → Bool
-is_letter letter = true
+abbrev pub is_letter : ByteClass → Bool
+is_letter Letter = true
 is_letter _ = false
 
-abbrev pub is_digit : Class → Bool
-is_digit digit = true
+abbrev pub is_digit : ByteClass → Bool
+is_digit Digit = true
 is_digit _ = false
 
 -- a byte of a number, and one behind the first letter of an identifier
@@ -72,8 +67,8 @@ named w = named_by (word_symbol (map lower w)) (map lower w)
 
 -- the text is one token
 pub data Lexeme : List ℕ → TokenKind → Type 0 where
-  word : (c : ℕ) (cs : List ℕ) → class c ≡ letter → AllPass word_byte cs → Lexeme (c ∷ cs) (named (c ∷ cs))
-  number : (c : ℕ) (cs : List ℕ) → class c ≡ digit → AllPass digit_byte cs → value_of (c ∷ cs) ≤ 32767 → Lexeme (c ∷ cs) (Number (value_of (c ∷ cs)))
+  word : (c : ℕ) (cs : List ℕ) → class c ≡ Letter → AllByRecursion (λ b. word_byte b ≡ true) cs → Lexeme (c ∷ cs) (named (c ∷ cs))
+  number : (c : ℕ) (cs : List ℕ) → class c ≡ Digit → AllByRecursion (λ b. digit_byte b ≡ true) cs → value_of (c ∷ cs) ≤ 32767 → Lexeme (c ∷ cs) (Number (value_of (c ∷ cs)))
   sign : (w : List ℕ) (k : ℕ) → sign_of w ≡ Some k → Lexeme w (Sign k)
   hole : Lexeme (35 ∷ []) Hole
 
@@ -99,7 +94,7 @@ pub record Takes (text : List ℕ) (token : TokenKind) (rest : List ℕ) : Type 
 
 -- the text begins with what stands between tokens
 pub data Skips : List ℕ → List ℕ → Type 0 where
-  blank : (c : ℕ) (rest : List ℕ) → class c ≡ separator → Skips (c ∷ rest) rest
+  blank : (c : ℕ) (rest : List ℕ) → class c ≡ Separator → Skips (c ∷ rest) rest
 
 -- the text begins with these tokens, up to the rest
 pub data LexesTo (rest : List ℕ) : List ℕ → List TokenKind → Type 0 where

@@ -1,6 +1,7 @@
 //! What every crate of dice11 speaks of: names, link words, texts, tokens, and where bytes come from and go to.
 #![tactic(auto)]
 
+mod byte;
 mod decimal;
 mod fault;
 mod link;
@@ -12,6 +13,7 @@ mod text;
 mod token;
 mod whole;
 
+pub use byte::{ByteClass, byte_class};
 pub use decimal::push_decimal;
 pub use fault::{Failed, NoMemory};
 pub use link::{LinkTo, LinkWord};

@@ -257,11 +257,13 @@ program_fills k lt = get_or-append_right (program_words 0) (replicate 14 0) k 0 
 
 pub program_parts : (code : BlockCode) → IsMade code program_block program_links None (Some 17) → IsProgramCode code
 program_parts code m = record {
+  first = let e : slice_index code.words.items 0 ≡ 2598 = ap (λ w. slice_index w 0) m.words_are in record { no_nop = λ h. omega (arith, e, h); no_bpt = λ h. omega (arith, e, h) };
   gate = m.gate_is;
   step = m.step_is;
   leave = m.leave_is;
   calls = m.calls_are;
   link = record { link = record { offset = 16; to = Child 0 }; only = m.links_are; leads = refl; inside = omega (arith, ap length m.words_are); zero = ap (λ w. slice_index w 16) m.words_are };
+  behind = omega arith;
   end_offset = 17;
   end = m.end_is;
   inside = omega (arith, ap length m.words_are);

@@ -1,5 +1,5 @@
 -- What is said of the code that is emitted for a block.
-use Rattle.std.specs.Prelude.{◌≡◌, ℕ, ◌<◌, List, [], ◌∷◌, length, slice_index, Option, Some, None}
+use Rattle.std.specs.Prelude.{◌≡◌, ◌≢◌, ℕ, ◌<◌, List, [], ◌∷◌, length, slice_index, Option, Some, None}
 use Rattle.dice_base.specs.declared.link.LinkTo.{LinkTo}
 use Rattle.dice_base.specs.declared.link.LinkTo.TheVariants.{Next, Child}
 use Rattle.dice_base.specs.declared.link.LinkWord.{LinkWord}
@@ -37,13 +37,20 @@ pub record IsStatementCode (code : BlockCode) : Type 0 where
   pub link : HasLinkWord code Next
   pub filled : (k : ℕ) → link.link.offset < k → slice_index code.words.items k ≡ 0
 
--- the program's block leads to its body, and has an end part
+-- no gate is this word
+pub record IsNoGate (word : ℕ) : Type 0 where
+  pub no_nop : word ≢ 160
+  pub no_bpt : word ≢ 3
+
+-- the program's block is begun at its first word, which is no gate, leads to its body, and has an end part
 pub record IsProgramCode (code : BlockCode) : Type 0 where
+  pub first : IsNoGate (slice_index code.words.items 0)
   pub gate : code.gate ≡ None
   pub step : code.step ≡ None
   pub leave : code.leave ≡ None
   pub calls : code.calls.items ≡ []
   pub link : HasLinkWord code (Child 0)
+  pub behind : 0 < link.link.offset
   pub end_offset : ℕ
   pub end : code.end ≡ Some end_offset
   pub inside : end_offset < length code.words.items

@@ -1,0 +1,3 @@
+pub mod World
+pub mod Represents
+pub mod Simulates

@@ -1,0 +1,62 @@
+-- When a machine stands for a state of the plain machine, in four parts: the code's place and the status; the variables;
+-- the frames; the console. All places are word numbers, and the machine's stack and program stand at whole words.
+use Rattle.std.specs.Prelude.{◌≡◌, ℕ, ◌+◌, ◌≤◌, false, List, [], ◌∷◌, length, slice_index, Option, Some, None}
+use Rattle.console_service.specs.Run.{gate_here}
+use Rattle.console_service.specs.Cpu.{Cpu, state_of, code_begin, globals_begin, memory_end}
+use Rattle.code_image.specs.Block.{First, Gate, Block}
+use Rattle.code_image.specs.Image.{InWords, end_word, trap_word}
+use Rattle.image_plan.specs.Links.{program_name}
+use Rattle.pascal_semantics.specs.State.{Status, NotStarted, Halted, Ended, Failed, Activation, State}
+use Rattle.statement_code.specs.Gives.{HasGlobals}
+use Rattle.statement_code.specs.Forms.{HasFrame}
+
+-- the machine stands at the begin of the program's block, at byte 512, where no gate stands
+pub record AtBegin (block : Option Block) (c : Cpu) : Type 0 where
+  pub lies : Block
+  pub is : block ≡ Some lies
+  pub begin : lies.part_at First ≡ Some 0
+  pub place : c.pc ≡ lies.place
+  pub at : c.pc ≡ code_begin
+  pub no_gate : gate_here (state_of c) ≡ false
+
+-- the machine stands at the gate of a block, its first word
+pub record AtGate (block : Option Block) (c : Cpu) : Type 0 where
+  pub lies : Block
+  pub is : block ≡ Some lies
+  pub gate : lies.part_at Gate ≡ Some 0
+  pub place : c.pc ≡ lies.place
+
+-- the machine has executed this word of a block
+pub record Behind (block : Option Block) (word : ℕ) (c : Cpu) : Type 0 where
+  pub lies : Block
+  pub is : block ≡ Some lies
+  pub at : ℕ
+  pub inside : InWords lies.place lies at
+  pub place : c.pc ≡ at + 1
+  pub executed : slice_index c.mem at ≡ word
+
+abbrev pub AtNewest : (ℕ → Option Block) → List Activation → Cpu → Type 0
+AtNewest blocks [] c = ⊥
+AtNewest blocks (a ∷ older) c = (a.frames ≡ []) × AtGate (blocks a.statement) c
+
+-- the code's place and the status: at byte 512 before the start; at the gate of the newest activation's statement;
+-- behind the word that ended the program, EMT 0 of the program's block; behind TRAP E in the block of the statement in
+-- error
+abbrev pub StandsAt : (ℕ → Option Block) → Status → List Activation → Cpu → Type 0
+StandsAt blocks NotStarted activations c = AtBegin (blocks program_name) c
+StandsAt blocks Halted activations c = AtNewest blocks activations c
+StandsAt blocks Ended activations c = Behind (blocks program_name) end_word c
+StandsAt blocks (Failed error name) activations c = Behind (blocks name) (trap_word error) c
+
+-- the frames: none, and all words behind the patch area zero, before the start; the program's at a gate
+abbrev pub FramesStand : Status → Cpu → Type 0
+FramesStand NotStarted c = (c.sp ≡ memory_end) × ((k : ℕ) → globals_begin ≤ k → slice_index c.mem k ≡ 0)
+FramesStand Halted c = HasFrame c
+FramesStand other c = Unit {0}
+
+-- the machine stands for the state, whose output is all drained
+pub record Represents (blocks : ℕ → Option Block) (s : State) (c : Cpu) : Type 0 where
+  pub control : StandsAt blocks s.status s.activations c
+  pub variables : HasGlobals s.globals c
+  pub frames : FramesStand s.status c
+  pub console : c.console.output ≡ []

@@ -1,0 +1,53 @@
+-- The words of blocks of code that are laid one behind the other, each with its one link word.
+use Rattle.std.specs.Prelude.{◌≡◌, ℕ, ◌+◌, ◌<◌, List, [], ◌∷◌, ◌++◌, length, map}
+use Rattle.dice_base.specs.declared.link.LinkWord.{LinkWord}
+use Rattle.console_service.specs.Cpu.{code_begin}
+use Rattle.code_image.specs.declared.block.BlockCode.{BlockCode}
+use Rattle.code_image.specs.Block.{linked, or_zero}
+use Rattle.code_image.specs.BlockOf.{link_of}
+use Rattle.pascal_semantics.specs.declared.form.SimpleForm.{SimpleForm}
+use Rattle.statement_code.specs.Forms.{StatementBlock}
+use Rattle.statement_code.specs.Emitted.{IsCodeOf, IsStatementCode}
+
+-- a block with one link word, inside its words
+abbrev pub HasOneLink : BlockCode → Type 0
+HasOneLink code = (link : LinkWord) × (code.links.items ≡ link ∷ []) × (link.offset < length code.words.items)
+
+abbrev pub AllHaveOneLink : List BlockCode → Type 0
+AllHaveOneLink [] = Unit {0}
+AllHaveOneLink (c ∷ cs) = HasOneLink c × AllHaveOneLink cs
+
+-- the block of each statement
+abbrev pub AreCodes : List SimpleForm → List BlockCode → Type 0
+AreCodes [] [] = Unit {0}
+AreCodes [] (c ∷ cs) = ⊥
+AreCodes (f ∷ fs) [] = ⊥
+AreCodes (f ∷ fs) (c ∷ cs) = (IsCodeOf (StatementBlock f) c × IsStatementCode c) × AreCodes fs cs
+
+-- the words of a block whose link leads to this word number
+abbrev pub laid_to : BlockCode → ℕ → List ℕ
+laid_to code target = linked code.words.items (map link_of code.links.items) (λ to. target)
+
+abbrev pub words_in : List BlockCode → ℕ
+words_in [] = 0
+words_in (c ∷ cs) = length c.words.items + words_in cs
+
+-- where control goes: to the next block at this place, or to the end
+abbrev pub next_place : ℕ → ℕ → List BlockCode → ℕ
+next_place place finish [] = finish
+next_place place finish (c ∷ cs) = place
+
+-- the blocks of statements from this place on
+abbrev pub statements_laid : ℕ → ℕ → List BlockCode → List ℕ
+statements_laid place finish [] = []
+statements_laid place finish (c ∷ cs) = laid_to c (next_place (place + length c.words.items) finish cs) ++ statements_laid (place + length c.words.items) finish cs
+
+-- the program's block at the begin of the code area, and those of its statements behind it
+abbrev pub first_place : BlockCode → ℕ
+first_place program = code_begin + length program.words.items
+
+abbrev pub finish_place : BlockCode → ℕ
+finish_place program = code_begin + or_zero program.end
+
+abbrev pub image_words : BlockCode → List BlockCode → List ℕ
+image_words program codes = laid_to program (next_place (first_place program) (finish_place program) codes) ++ statements_laid (first_place program) (finish_place program) codes

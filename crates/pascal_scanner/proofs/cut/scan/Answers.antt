@@ -1,0 +1,8 @@
+use Rattle.pascal_scanner.proofs.Onward.{read-done, Lexes-one}
+use Rattle.pascal_scanner.proofs.cut.scan.Goals as goal
+
+pub returns-clause-tokens : goal.returns-clause-tokens
+returns-clause-tokens c = read-done _ _ _ c.loop-at.invariant c.loop-at-test.false
+
+pub returns-clause-only : goal.returns-clause-only
+returns-clause-only c = λ list l. Lexes-one _ _ _ l (read-done _ _ _ c.loop-at.invariant c.loop-at-test.false)

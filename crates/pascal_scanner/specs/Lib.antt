@@ -1,0 +1,4 @@
+pub mod Longest
+pub mod Progress
+pub mod Spans
+pub mod Unread

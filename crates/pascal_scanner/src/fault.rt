@@ -1,0 +1,33 @@
+//! Why a text has no tokens.
+use dice_base::NoMemory;
+use thiserror::Error;
+
+/// Why a text has no tokens. A place is the byte, counted from 0, where the first token or comment begins that
+/// cannot be read.
+#[derive(Clone, Copy, Debug, PartialEq, Eq, Error)]
+pub enum ScanFault {
+    /// A byte that begins no token.
+    #[error("bad character at {0}")]
+    BadCharacter(u32),
+    /// A comment that is not closed.
+    #[error("comment not closed at {0}")]
+    OpenComment(u32),
+    /// A string that is not closed on its line, or has no character in it.
+    #[error("string not closed at {0}")]
+    OpenString(u32),
+    /// A number above 32,767.
+    #[error("number too large at {0}")]
+    NumberTooLarge(u32),
+    /// More than 65,536 bytes. This is tried first.
+    #[error("text too long")]
+    TextTooLong,
+    /// Memory was refused. No contract says when this comes.
+    #[error("out of memory")]
+    NoMemory,
+}
+
+impl From<NoMemory> for ScanFault {
+    fn from(_: NoMemory) -> Self {
+        ScanFault::NoMemory
+    }
+}

@@ -1,0 +1,9 @@
+pub mod Bodies
+pub mod Forms
+pub mod Places
+pub mod Programs
+pub mod Scripts
+pub mod Slices
+pub mod Steps
+pub mod Turns
+pub mod Wholes
