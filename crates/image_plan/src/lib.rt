@@ -3,5 +3,7 @@
 
 mod lay;
 mod load;
+#[cfg(test)]
+mod tests;
 
 pub use load::load_words;

@@ -1,6 +1,6 @@
 -- One step of the plain machine (ISO 7185:1990, 6.7, 6.8 and 6.9, in this profile: operands are worked out from left to
 -- right, and an integer result outside -32767 to 32767 is run-time error 3).
-use Rattle.std.specs.Prelude.{ℕ, ℤ, pos, negsuc, ◌+◌, ◌-◌, ◌+ℤ◌, Bool, ◌==◌, nat_lt, if◌then◌else◌, List, [], ◌∷◌, ◌++◌, length, Option, Some, None, slice_get, slice_index, slice_set, replicate}
+use Rattle.std.specs.Prelude.{ℕ, ℤ, pos, negsuc, ◌+◌, ◌-◌, ◌+ℤ◌, Bool, nat_lt, if◌then◌else◌, List, [], ◌∷◌, ◌++◌, length, Option, Some, None, slice_get, slice_index, slice_set, replicate}
 use Rattle.std.specs.Fmt.{decimal}
 use Rattle.dice_base.specs.Word.{signed_value}
 use Rattle.pascal_semantics.specs.declared.form.Operand.{Operand}

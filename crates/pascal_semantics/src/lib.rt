@@ -6,6 +6,8 @@
 
 mod charges;
 mod form;
+#[cfg(test)]
+mod tests;
 
 pub use charges::{PROGRAM_CHARGE, charge};
 pub use form::{Operand, SimpleForm, Sum};

@@ -103,6 +103,15 @@ module _ {Form Path Data : Type 0} (M : Semantics Form Path Data) where
   told_break : (gates count : ℕ) → count ≢ gates → (s : Now Path Data) (e : Cpu) → ((state_of e).0, (state_of e).1, record { end = end.AtBreak; passed = count }) ≡ told gates count (Goes s) e
   told_break gates count ne s e = let some : false ≡ nat_eq count gates = sym (grind (arith, nat_tests, ne)) in ap (λ b. ((state_of e).0, (state_of e).1, record { end = if b then end.Counted else end.AtBreak; passed = count })) some
 
+  few_unless : (b : Bool) (n k : ℕ) → n ≤ k → sum_unless b n ≤ k
+  few_unless true n k le = omega arith
+  few_unless false n k le = le
+
+  -- no run passes more gates than were asked for
+  pub few_gates : (P : Program Form) (short : ℕ) (marks : ℕ → Bool) (k : ℕ) (x : State Path Data) → gates_passed M P short marks k x ≤ k
+  few_gates P short marks zero x = omega arith
+  few_gates P short marks (suc k) x = let y = settle M P short (next M P x) in omega (arith, few_unless (ends_run marks y) (gates_passed M P short marks k y) k (few_gates P short marks k y))
+
   -- what Go gives, for a run that ends at a state
   abbrev pub GoGives : Program Form → (ℕ → Option Block) → (ℕ → Bool) → ℕ → ℕ → State Path Data → MachineState × ConsoleState × Went → Type 0
   GoGives P es marks gates count y r = (e : Cpu) × Represents M P es y e × HasImage M P es marks e.mem × (r ≡ told gates count y e)

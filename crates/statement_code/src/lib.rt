@@ -2,6 +2,8 @@
 #![tactic(auto)]
 
 mod emit;
+#[cfg(test)]
+mod tests;
 
 pub use code_image::BlockCode;
 pub use emit::{emit_program, emit_simple};
