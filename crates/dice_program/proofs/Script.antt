@@ -1,8 +1,6 @@
 -- What a script's answer is, from the answer of its parts, and what a run of the program is from that.
-use Rattle.std.proofs.Common.{◌≡◌, ℕ, ◌+◌, ◌<◌, ◌≤◌, ◌⊎◌, inl, inr, Option, Some, None, List, [], ◌∷◌, ◌++◌, length, take, drop, Result, Ok, Err, refl, sym, ap, ◌∙◌, subst, arith, length-take, append-nil}
+use Rattle.std.proofs.Common.{◌≡◌, ℕ, ◌⊎◌, inl, inr, Option, Some, None, List, ◌++◌, length, Result, Ok, Err, refl, sym, ap, ◌∙◌, subst, arith, append-nil}
 use Rattle.std.specs.Io.KnownBytes.{Appends}
-use Rattle.dice_base.specs.Causes.{Rose}
-use Rattle.dice_base.specs.Part.{WritesPart}
 use Rattle.pdp11_machine.specs.State.{State as MachineState}
 use Rattle.pascal_semantics.specs.declared.form.SimpleForm.{SimpleForm}
 use Rattle.simple_script.specs.Program.{Plain}
@@ -11,7 +9,7 @@ use Rattle.dice_session.specs.World.{loaded_reply, run_reply, transcript_of}
 use Rattle.dice_program.specs.declared.top.Stop.{Stop}
 use Rattle.dice_program.specs.declared.top.Stop.TheVariants.{ReadFault, WriteFault, NoMemory}
 use Rattle.dice_program.specs.Read.{IsFront}
-use Rattle.dice_program.specs.Top.{Ends, IsScript, IsTextFor, IsNotSimple, WritesFront, commands_of, IsRun, IsRefused, IsDone, IsCut, IsShort}
+use Rattle.dice_program.specs.Top.{Ends, IsScript, IsTextFor, WritesFront, commands_of, IsRun, IsRefused, IsDone, IsShort}
 use Rattle.dice_program.specs.Serve.{Served, Answered, WasRun, told_of, ran_of}
 use Rattle.dice_program.proofs.Fronts.{whole-taken, short-taken}
 

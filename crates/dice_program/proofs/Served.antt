@@ -1,5 +1,5 @@
 -- What a sink gained of several pieces, and what the top call's parts do with them.
-use Rattle.std.proofs.Common.{◌≡◌, ℕ, ◌+◌, ◌<◌, ◌≤◌, ◌⊎◌, inl, inr, Option, Some, None, List, [], ◌∷◌, ◌++◌, length, take, Result, Ok, Err, refl, sym, ap, ◌∙◌, subst, arith, length-append, append-nil}
+use Rattle.std.proofs.Common.{◌≡◌, ℕ, ◌+◌, ◌≤◌, Option, Some, None, List, ◌++◌, length, take, Result, Ok, Err, sym, ap, ◌∙◌, subst, arith, length-append}
 use Rattle.std.proofs.lemmas.List.{take-append-le, append_assoc}
 use Rattle.std.proofs.Math.Seq.{take-append_seam, take-append-add}
 use Rattle.std.specs.Result.{IsErrAnd}
@@ -9,7 +9,6 @@ use Rattle.dice_base.specs.Part.{WritesPart}
 use Rattle.pdp11_machine.specs.State.{State as MachineState}
 use Rattle.pascal_semantics.specs.declared.form.SimpleForm.{SimpleForm}
 use Rattle.dice_session.specs.World.{loaded_reply, run_reply}
-use Rattle.dice_session.specs.Simulates.{StandsFor}
 use Rattle.dice_program.specs.declared.top.Stop.{Stop}
 use Rattle.dice_program.specs.declared.top.Stop.TheVariants.{ReadFault, WriteFault, NoMemory}
 use Rattle.dice_program.specs.Top.{WritesFront}

@@ -1,14 +1,13 @@
 -- The statements of a simple program are those of a program that is built.
-use Rattle.std.proofs.Common.{◌≡◌, ℕ, ◌<◌, ◌≤◌, List, [], ◌∷◌, length, Option, Some, None, refl, subst, arith}
+use Rattle.std.proofs.Common.{◌≡◌, ℕ, ◌≤◌, List, [], ◌∷◌, length, Option, Some, None, refl, subst, arith}
 use Rattle.std.specs.Prelude.{IfSome}
 use Rattle.std.specs.List.{AllByRecursion}
 use Rattle.pascal_semantics.specs.declared.form.Operand.{Operand}
 use Rattle.pascal_semantics.specs.declared.form.Operand.TheVariants.{Global, Number}
-use Rattle.pascal_semantics.specs.declared.form.Sum.{Sum}
 use Rattle.pascal_semantics.specs.declared.form.SimpleForm.{SimpleForm}
 use Rattle.pascal_semantics.specs.declared.form.SimpleForm.TheVariants.{Assign, WriteLine}
 use Rattle.statement_code.specs.Code.{IsForm, IsOperand, IsSecond, IsWidth}
-use Rattle.simple_script.specs.Program.{Plain, OperandWithin, SumWithin, FormWithin, IsSimple}
+use Rattle.simple_script.specs.Program.{Plain, OperandWithin, FormWithin, IsSimple}
 use Rattle.simple_script.specs.Script.{Command, Load, Run, Reads, none, load, run, IsSimpleScript}
 use Rattle.dice_base.specs.Lines.{lines_of}
 use Rattle.dice_session.specs.Simulates.{IsProgram}

@@ -1,7 +1,7 @@
 -- What a run of the program reads, writes and leaves, status by status.
-use Rattle.std.specs.Prelude.{◌≡◌, ℕ, ◌≤◌, ◌⊎◌, List, [], ◌∷◌, length, take, drop, codes, Some, IfSome}
+use Rattle.std.specs.Prelude.{◌≡◌, ℕ, ◌⊎◌, List, [], ◌∷◌, take, drop, codes, Some, IfSome}
 use Rattle.std.specs.declared.option.Option.{Option}
-use Rattle.std.specs.Io.KnownBytes.{Keeps, Appends}
+use Rattle.std.specs.Io.KnownBytes.{Appends}
 use Rattle.dice_base.specs.Causes.{Rose}
 use Rattle.dice_base.specs.Part.{WritesPart}
 use Rattle.pdp11_machine.specs.State.{State as MachineState}

@@ -1,10 +1,9 @@
-use Rattle.std.proofs.Common.{◌≡◌, ap, sym, ◌∙◌, subst, Some}
+use Rattle.std.proofs.Common.{sym, subst}
 use Rattle.std.specs.Prelude.{IfSome}
 use Rattle.dice_session.specs.Simulates.{IsProgram}
 use Rattle.simple_script.specs.Program.{plain}
 use Rattle.simple_script.specs.Script.{IsSimpleScript}
 use Rattle.dice_program.proofs.Simple.{script_program}
-use Rattle.dice_program.proofs.Script.{answered_run}
 use Rattle.dice_program.proofs.top.answer.Goals as goal
 
 pub serve-requires-clause-program : goal.serve-requires-clause-program

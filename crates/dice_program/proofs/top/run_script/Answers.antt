@@ -1,4 +1,4 @@
-use Rattle.std.proofs.Common.{◌≡◌, sym, subst}
+use Rattle.std.proofs.Common.{sym, subst}
 use Rattle.dice_program.specs.Read.{IsFront}
 use Rattle.dice_program.proofs.Script.{was_run}
 use Rattle.dice_program.proofs.top.run_script.Goals as goal

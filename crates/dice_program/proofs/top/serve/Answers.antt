@@ -1,4 +1,4 @@
-use Rattle.std.proofs.Common.{◌≡◌, ◌++◌, ap, sym, ◌∙◌, [], refl}
+use Rattle.std.proofs.Common.{◌++◌, ap, ◌∙◌, refl}
 use Rattle.pascal_semantics.specs.State.{loaded_state}
 use Rattle.dice_session.specs.World.{loaded_reply, run_reply}
 use Rattle.dice_program.specs.Serve.{ran_of}
