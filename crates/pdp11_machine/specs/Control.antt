@@ -1,5 +1,5 @@
 -- Branches, condition codes, subroutines and returns from traps: PDP-11/40 Processor Handbook, chapter 4.
-use Rattle.std.specs.Prelude.{◌≡◌, ℕ, ◌+◌, ◌-◌, ◌*◌, ◌/◌, ◌%◌, ◌^◌, ◌<◌, Bool, true, false, ◌&&◌, ◌||◌, nat_lt, nat_le, nat_eq, if◌then◌else◌, Option, Some, None, List, [], ◌∷◌, length, slice_index, slice_set, replicate, bit_and, bit_or, bit_xor}
+use Rattle.std.specs.Prelude.{ℕ, ◌+◌, ◌-◌, ◌*◌, ◌/◌, ◌%◌, Bool, true, false, ◌||◌, nat_le, nat_eq, if◌then◌else◌, Option, Some}
 use Rattle.pdp11_code.specs.declared.instr.Ea.{Ea}
 use Rattle.pdp11_machine.specs.declared.Place.TheVariants.{Cell}
 use Rattle.pdp11_machine.specs.State.{State, Flags, reg, with_reg, word_at, with_status, not, differs}

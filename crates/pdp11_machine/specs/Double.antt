@@ -1,10 +1,10 @@
 -- The instructions of two operands: PDP-11/40 Processor Handbook, chapter 4. The source is fetched before the
 -- destination's address is worked out. At a bus trap the flags stay.
-use Rattle.std.specs.Prelude.{◌≡◌, ℕ, ◌+◌, ◌-◌, ◌*◌, ◌/◌, ◌%◌, ◌^◌, ◌<◌, Bool, true, false, ◌&&◌, ◌||◌, nat_lt, nat_le, nat_eq, if◌then◌else◌, Option, Some, None, List, [], ◌∷◌, length, slice_index, slice_set, replicate, bit_and, bit_or, bit_xor}
+use Rattle.std.specs.Prelude.{ℕ, ◌+◌, ◌-◌, ◌%◌, Bool, true, false, ◌&&◌, nat_lt, nat_le, nat_eq, if◌then◌else◌, Option, Some, bit_and, bit_or}
 use Rattle.pdp11_code.specs.declared.instr.Ea.{Ea}
 use Rattle.pdp11_machine.specs.declared.Place.{Place}
-use Rattle.pdp11_machine.specs.declared.Place.TheVariants.{Register, Cell}
-use Rattle.pdp11_machine.specs.State.{State, Flags, with_reg, not}
+use Rattle.pdp11_machine.specs.declared.Place.TheVariants.{Register}
+use Rattle.pdp11_machine.specs.State.{State, with_reg, not}
 use Rattle.pdp11_machine.specs.Operands.{and_then, placed, loaded, loaded_by, stored, stored_by, with_flags}
 use Rattle.pdp11_machine.specs.Words.{flags_of, flags_by, sum_overflows, difference, difference_leaves}
 

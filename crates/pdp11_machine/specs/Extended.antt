@@ -1,6 +1,6 @@
 -- The instructions of a register and an operand: PDP-11/40 Processor Handbook, chapter 4, extended instruction set, and
 -- XOR. The register is taken after the operand's address is worked out, but that of XOR, its source, before.
-use Rattle.std.specs.Prelude.{◌≡◌, ℕ, ◌+◌, ◌-◌, ◌*◌, ◌/◌, ◌%◌, ◌^◌, ◌<◌, Bool, true, false, ◌&&◌, ◌||◌, nat_lt, nat_le, nat_eq, if◌then◌else◌, Option, Some, None, List, [], ◌∷◌, length, slice_index, slice_set, replicate, bit_and, bit_or, bit_xor}
+use Rattle.std.specs.Prelude.{ℕ, ◌+◌, ◌-◌, ◌*◌, ◌/◌, ◌%◌, ◌^◌, Bool, true, false, nat_lt, nat_le, nat_eq, if◌then◌else◌, Option, Some, None, bit_xor}
 use Rattle.pdp11_code.specs.declared.instr.Ea.{Ea}
 use Rattle.pdp11_machine.specs.State.{State, Flags, reg, with_reg, differs}
 use Rattle.pdp11_machine.specs.Operands.{and_then, placed, loaded}
@@ -58,8 +58,8 @@ unfoldable pub computed : ℕ → ℕ → ℕ → State → State
 computed op r word s = if nat_eq op 0 then multiplied r word s else (if nat_eq op 1 then quotient_stored r word s else shift_stored r word s)
 
 -- XOR
-abbrev pub differed : ℕ → Ea → State → State × Option Unit
-differed r target s =
+abbrev pub exclusive_or_stored : ℕ → Ea → State → State × Option Unit
+exclusive_or_stored r target s =
     let word = reg s r in
     and_then (placed false target.mode target.register s) (λ t p. and_then (t, loaded t p) (λ u old. logic_stored false u p (bit_xor old word)))
 
@@ -69,4 +69,4 @@ operand_computed op r source s =
 
 -- an instruction of a register and an operand: XOR 4
 abbrev pub extended_done : ℕ → ℕ → Ea → State → State × Option Unit
-extended_done op r operand s = if nat_eq op 4 then differed r operand s else operand_computed op r operand s
+extended_done op r operand s = if nat_eq op 4 then exclusive_or_stored r operand s else operand_computed op r operand s

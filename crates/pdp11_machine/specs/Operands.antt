@@ -1,6 +1,6 @@
 -- Where operands stand: the addressing modes of the PDP-11/40 Processor Handbook, chapter 3. A register change stands
 -- once it is made, also where a bus trap comes after it.
-use Rattle.std.specs.Prelude.{◌≡◌, ℕ, ◌+◌, ◌-◌, ◌*◌, ◌/◌, ◌%◌, ◌^◌, ◌<◌, Bool, true, false, ◌&&◌, ◌||◌, nat_lt, nat_le, nat_eq, if◌then◌else◌, Option, Some, None, List, [], ◌∷◌, length, slice_index, slice_set, replicate, bit_and, bit_or, bit_xor}
+use Rattle.std.specs.Prelude.{ℕ, ◌+◌, ◌-◌, ◌*◌, ◌/◌, ◌%◌, ◌<◌, Bool, ◌&&◌, nat_lt, nat_le, nat_eq, if◌then◌else◌, Option, Some, None, slice_index}
 use Rattle.pdp11_machine.specs.declared.Place.{Place}
 use Rattle.pdp11_machine.specs.declared.Place.TheVariants.{Register, Cell}
 use Rattle.pdp11_machine.specs.State.{State, Flags, reg, with_reg, is_place, word_at, with_word}

@@ -1,6 +1,6 @@
 -- What clauses see of a machine, and its smallest parts: the memory, the general registers and the processor status
 -- word of the PDP-11/40 Processor Handbook, chapters 2 and 3.
-use Rattle.std.specs.Prelude.{◌≡◌, ℕ, ◌+◌, ◌-◌, ◌*◌, ◌/◌, ◌%◌, ◌^◌, ◌<◌, Bool, true, false, ◌&&◌, ◌||◌, nat_lt, nat_le, nat_eq, if◌then◌else◌, Option, Some, None, List, [], ◌∷◌, length, slice_index, slice_set, replicate, bit_and, bit_or, bit_xor}
+use Rattle.std.specs.Prelude.{◌≡◌, ℕ, ◌+◌, ◌*◌, ◌/◌, ◌%◌, ◌<◌, Bool, true, false, ◌&&◌, nat_lt, nat_eq, if◌then◌else◌, Option, Some, None, List, length, slice_index, slice_set, replicate}
 
 pub record Flags : Type 0 where
   pub negative : Bool

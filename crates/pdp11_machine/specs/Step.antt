@@ -1,6 +1,6 @@
 -- One step of the machine. The vectors of the traps are in decimal: 4 odd address or none there, 8 reserved
 -- instruction, 12 BPT, 16 IOT, 24 EMT, 28 TRAP (PDP-11/40 Processor Handbook, chapter 2 and appendix).
-use Rattle.std.specs.Prelude.{◌≡◌, ℕ, ◌+◌, ◌-◌, ◌*◌, ◌/◌, ◌%◌, ◌^◌, ◌<◌, Bool, true, false, ◌&&◌, ◌||◌, nat_lt, nat_le, nat_eq, if◌then◌else◌, Option, Some, None, List, [], ◌∷◌, length, slice_index, slice_set, replicate, bit_and, bit_or, bit_xor}
+use Rattle.std.specs.Prelude.{ℕ, nat_eq, if◌then◌else◌, Option, Some, None, [], ◌∷◌}
 use Rattle.pdp11_code.specs.declared.instr.Instr.{Instr}
 use Rattle.pdp11_code.specs.declared.instr.Instr.TheVariants.{Two, Extended, One, Jsr, Rts, Sob, Branch, Emt, Trap as TrapInstr, Flags as FlagsInstr, Bare}
 use Rattle.pdp11_code.specs.Code.{decoded}

@@ -1,5 +1,5 @@
 -- Traps: PDP-11/40 Processor Handbook, chapter 2, processor traps.
-use Rattle.std.specs.Prelude.{◌≡◌, ℕ, ◌+◌, ◌-◌, ◌*◌, ◌/◌, ◌%◌, ◌^◌, ◌<◌, Bool, true, false, ◌&&◌, ◌||◌, nat_lt, nat_le, nat_eq, if◌then◌else◌, Option, Some, None, List, [], ◌∷◌, length, slice_index, slice_set, replicate, bit_and, bit_or, bit_xor}
+use Rattle.std.specs.Prelude.{ℕ, ◌+◌, ◌/◌, ◌%◌, Bool, true, false, ◌&&◌, if◌then◌else◌, slice_index}
 use Rattle.pdp11_machine.specs.State.{State, reg, with_reg, is_place, with_word, status_of, with_status}
 
 -- both words of the vector and both words below the stack's top can be reached

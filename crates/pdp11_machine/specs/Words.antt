@@ -1,6 +1,6 @@
 -- What the flags say of words and bytes: PDP-11/40 Processor Handbook, chapter 4. A value is negative from half of its
 -- range on.
-use Rattle.std.specs.Prelude.{◌≡◌, ℕ, ◌+◌, ◌-◌, ◌*◌, ◌/◌, ◌%◌, ◌^◌, ◌<◌, Bool, true, false, ◌&&◌, ◌||◌, nat_lt, nat_le, nat_eq, if◌then◌else◌, Option, Some, None, List, [], ◌∷◌, length, slice_index, slice_set, replicate, bit_and, bit_or, bit_xor}
+use Rattle.std.specs.Prelude.{ℕ, ◌+◌, ◌-◌, ◌%◌, Bool, false, ◌&&◌, nat_lt, nat_le, nat_eq, if◌then◌else◌}
 use Rattle.pdp11_machine.specs.State.{Flags}
 
 -- how many values a byte or a word has, and the least negative one

@@ -2,7 +2,7 @@
 
 ghost use Rattle.std.specs.Prelude.{◌≡◌, ℕ, ◌+◌, ◌*◌, ◌/◌, ◌%◌, ◌<◌, ◌≤◌, Some, None};
 ghost use Rattle.pdp11_machine.specs.State.{State};
-ghost use Rattle.pdp11_machine.specs.Extended.{pair_of, product_stored, multiplied, quotient_stored, left_stored, right_stored, shift_stored, computed, differed, operand_computed, extended_done, undivided_flags};
+ghost use Rattle.pdp11_machine.specs.Extended.{pair_of, product_stored, multiplied, quotient_stored, left_stored, right_stored, shift_stored, computed, exclusive_or_stored, operand_computed, extended_done, undivided_flags};
 
 use crate::Machine;
 use crate::arithmetic::{
@@ -113,9 +113,9 @@ impl Machine {
         }
     }
 
-    fn differ(&mut self, register: u8, target: &Ea) -> Option<()>
+    fn exclusive_or(&mut self, register: u8, target: &Ea) -> Option<()>
         requires { (register < 8) × (target.now.register < 8) }
-        ensures { (self.new, result) ≡ differed register target.now self.old }
+        ensures { (self.new, result) ≡ exclusive_or_stored register target.now self.old }
     {
         let word = self.register(register);
         let place = self.place(false, target.mode, target.register)?;
@@ -138,7 +138,7 @@ impl Machine {
         ensures { (self.new, result) ≡ extended_done op register operand.now self.old }
     {
         if op == 4 {
-            self.differ(register, operand)
+            self.exclusive_or(register, operand)
         } else {
             self.compute_operand(op, register, operand)
         }
