@@ -6,6 +6,8 @@ mod status;
 #[cfg(test)]
 mod tests;
 mod top;
+#[cfg(test)]
+mod top_tests;
 
 use dice_base::{NoMemory, StdSink, StdSource};
 use pdp11_machine::Machine;

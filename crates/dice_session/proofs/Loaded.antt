@@ -56,9 +56,10 @@ with_kept mem p (w ∷ ws) k out = with_kept (slice_set mem p w) (p + 1) ws k (l
 with_at : (mem : List ℕ) (p : ℕ) (ws : List ℕ) → p + length ws ≤ length mem → HasAt (memory_with mem p ws) p ws
 unfolding memory_with
 with_at mem p [] fits = tt
-with_at mem p (w ∷ ws) fits =
-    (with_kept (slice_set mem p w) (p + 1) ws p (inl (omega arith)) ∙ get_or-set_same mem p w 0 (omega (arith, fits)),
-     with_at (slice_set mem p w) (p + 1) ws (omega (arith, fits, length-set mem p w)))
+with_at mem p (w ∷ ws) fits = (
+  with_kept (slice_set mem p w) (p + 1) ws p (inl (omega arith)) ∙ get_or-set_same mem p w 0 (omega (arith, fits)),
+  with_at (slice_set mem p w) (p + 1) ws (omega (arith, fits, length-set mem p w)),
+)
 
 pub zeros : (n i : ℕ) → slice_index (replicate n 0) i ≡ 0
 zeros n i = elim (cases_lt i n) [ inl low ↦ get_or-replicate n i 0 0 low | inr past ↦ get_or_past _ i 0 (rw length-replicate past) ]

@@ -16,6 +16,7 @@ unfoldable pub name_from : ℕ → ℕ → List SimpleForm → ℕ → ℕ
 name_from name finish [] place = 0
 name_from name finish (f ∷ fs) place = if nat_lt place (finish + charge_of f) then name else name_from (name + 1) (finish + charge_of f) fs place
 
+-- the same among all blocks of the program, whose own name stands for all words before the statements
 abbrev pub name_at : List SimpleForm → ℕ → ℕ
 name_at fs place = if nat_lt place (code_begin + program_charge) then program_name else name_from first_name (code_begin + program_charge) fs place
 

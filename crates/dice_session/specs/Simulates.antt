@@ -24,7 +24,7 @@ pub record IsProgram (fs : List SimpleForm) : Type 0 where
   pub some : 1 ≤ length fs
   pub few : length fs ≤ 100
 
--- a state of a run of the program: before its start, at the gate of one of its statements, ended or in error
+-- at the gate of one of the program's statements
 abbrev pub IsAtStatement : List SimpleForm → List Activation → Type 0
 IsAtStatement fs activations = (n : ℕ) × (row : Row) × (row_of (program_of fs) n ≡ Some row) × (activations ≡ record { routine = program_name; statement = n; frames = [] } ∷ [])
 
@@ -33,6 +33,7 @@ IsWellFormedBy fs NotStarted activations = activations ≡ []
 IsWellFormedBy fs Halted activations = IsAtStatement fs activations
 IsWellFormedBy fs other activations = Unit {0}
 
+-- a state of a run of the program: before its start, at the gate of one of its statements, ended or in error
 abbrev pub IsWellFormed : List SimpleForm → State → Type 0
 IsWellFormed fs s = IsWellFormedBy fs s.status s.activations
 

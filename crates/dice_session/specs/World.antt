@@ -52,6 +52,7 @@ ending_of (Failed error name) activations = line (codes "error " ++ (decimal err
 abbrev pub run_reply : State → List ℕ
 run_reply s = written_part s.output ++ ending_of s.status s.activations
 
+-- a run of the present program, if there is one
 abbrev pub run_in : Option (List SimpleForm) → ℕ → World → World × List ℕ
 run_in None k w = (w, line (codes "no program"))
 run_in (Some fs) k w = (record w { state = run_of (program_of fs) k w.state }, run_reply (run_of (program_of fs) k w.state))

@@ -5,6 +5,8 @@ mod loading;
 mod place;
 mod reply;
 mod running;
+#[cfg(test)]
+mod tests;
 
 pub use loading::load;
 pub use running::run;

@@ -40,6 +40,7 @@ pub fn load(
     Ok(())
 }
 
+// Writes the words from the begin of the code area on, and sets SP and PC for a run from the begin.
 #[tactic(auto, unfolding(crate::specs::Places::poked))]
 fn write_words(machine: &mut Machine, words: &[u16])
     requires { length words.now ≤ 10240 }

@@ -4,7 +4,7 @@ ghost use Rattle.dice_session.specs.Places.{name_at};
 
 use pascal_semantics::{PROGRAM_CHARGE, SimpleForm, charge};
 
-// The word number at which the code area begins.
+/// The word number at which the code area begins.
 const CODE_BEGIN: u32 = 256;
 
 /// The name of the program itself.
@@ -13,7 +13,8 @@ const PROGRAM: u32 = 1;
 /// The name of a program's first statement.
 const FIRST_STATEMENT: u32 = 4;
 
-/// The name of the statement whose block holds this word, given as a word number, or of the program.
+/// The name of the statement whose block holds the word of this number. It is the program's own name in the program's
+/// block and before it, and 0 behind all blocks.
 #[tactic(auto, unfolding(crate::specs::Places::name_from))]
 pub(crate) fn name_at(forms: &[SimpleForm], place: u32) -> u32
     requires { length forms.now ≤ 100 }

@@ -47,7 +47,8 @@ pub(crate) fn push_written(alloc: Global, out: &mut Text, written: &[u8]) -> Res
     }
 }
 
-/// How a run ended, with PC at this word number.
+/// How a run ended, with PC at this word number: the gate that it stopped at, or the word behind TRAP. Nothing is told
+/// of the ends that no program comes to.
 pub(crate) fn push_ending(
     alloc: Global,
     out: &mut Text,

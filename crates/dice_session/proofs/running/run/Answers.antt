@@ -11,7 +11,7 @@ returns c =
     let bytes = c.deref.ensures.value ∙ c.in_ok-written.ensures.written in
     let written = c.in_ok-push_written.ensures ∙ ap (λ b. c.args.out.now ++ written_part b) bytes in
     from_made _ _ c.push_ending.result c.push_ending.ensures (λ u told s can.
-      ran fs c.args.gates s c.args.machine.now c.args.console.now c.args.out.now c.push_ending.new.out (c.go-went.new.machine, c.go-went.new.console, c.go-went.result) c.drained.new.console
-      c.requires.program c.requires.some c.go-went.ensures c.register.ensures.machine.memory_length c.in_ok-written.ensures.empty
-      (told ∙ ap (λ o. o ++ ending_told fs c.go-went.result.end (c.register.result / 2)) written ∙ ap (λ w. (c.args.out.now ++ written_part c.go-went.new.console.output) ++ ending_told fs c.go-went.result.end (w / 2)) c.register.ensures.word)
-      can)
+    ran fs c.args.gates s c.args.machine.now c.args.console.now c.args.out.now c.push_ending.new.out (c.go-went.new.machine, c.go-went.new.console, c.go-went.result) c.drained.new.console
+    c.requires.program c.requires.some c.go-went.ensures c.register.ensures.machine.memory_length c.in_ok-written.ensures.empty
+    (told ∙ ap (λ o. o ++ ending_told fs c.go-went.result.end (c.register.result / 2)) written ∙ ap (λ w. (c.args.out.now ++ written_part c.go-went.new.console.output) ++ ending_told fs c.go-went.result.end (w / 2)) c.register.ensures.word)
+    can)
