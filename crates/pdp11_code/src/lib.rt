@@ -1,4 +1,4 @@
-//! The instructions of the PDP-11/40 that are built so far, read from words and written as words.
+//! The instructions of the PDP-11/40 read from words and written as words.
 #![tactic(auto)]
 
 mod instr;

@@ -8,7 +8,7 @@ use crate::instr::{Ea, Instr};
 use crate::table::{ROWS, Shape};
 
 /// The instruction that begins the words, and the number of its words, 1 to 3. None exactly where no instruction
-/// of a built row begins there, or its words end early.
+/// of the table begins there, or its words end early.
 pub fn decode(words: &[u16]) -> Option<(Instr, usize)>
     ensures reads { result ≡ decoded words.now }
     ensures listed { IfSome result (λ read. IsInstr read.0) }

@@ -2,7 +2,10 @@ pub mod State
 pub mod Operands
 pub mod Words
 pub mod Double
+pub mod Outcome
 pub mod Single
+pub mod Arithmetic
+pub mod Extended
 pub mod Control
 pub mod TakeTrap
 pub mod Step

@@ -1,9 +1,9 @@
 -- Where operands stand: the addressing modes of the PDP-11/40 Processor Handbook, chapter 3. A register change stands
 -- once it is made, also where a bus trap comes after it.
-use Rattle.std.specs.Prelude.{ℕ, ◌+◌, ◌-◌, ◌/◌, ◌%◌, ◌<◌, Bool, ◌&&◌, nat_lt, nat_le, nat_eq, if◌then◌else◌, Option, Some, None, slice_index}
+use Rattle.std.specs.Prelude.{ℕ, ◌+◌, ◌-◌, ◌*◌, ◌/◌, ◌%◌, ◌<◌, Bool, ◌&&◌, nat_lt, nat_le, nat_eq, if◌then◌else◌, Option, Some, None, slice_index}
 use Rattle.pdp11_machine.specs.declared.Place.{Place}
 use Rattle.pdp11_machine.specs.declared.Place.TheVariants.{Register, Cell}
-use Rattle.pdp11_machine.specs.State.{State, reg, with_reg, is_place, word_at, with_word}
+use Rattle.pdp11_machine.specs.State.{State, Flags, reg, with_reg, is_place, word_at, with_word}
 
 -- a step that may come to a bus trap, and then another
 abbrev pub and_then : {A B : Type 0} → State × Option A → (State → A → State × Option B) → State × Option B
@@ -54,6 +54,14 @@ IsRegistered (Cell a) = Unit {0}
 abbrev pub placed : Bool → ℕ → ℕ → State → State × Option Place
 placed byte mode r s = if nat_eq mode 0 then (s, Some (Register r)) else and_then (addressed byte mode r s) (λ t a. (t, Some (Cell a)))
 
+-- the byte at an address: the low byte of a word at its even address, the high byte at the odd one
+abbrev pub byte_at : State → ℕ → Option ℕ
+byte_at s a = if nat_lt a 57344 then Some (if nat_eq (a % 2) 0 then slice_index s.memory (a / 2) % 256 else slice_index s.memory (a / 2) / 256) else None
+
+-- a word of which the byte of this address is replaced
+abbrev pub with_byte : ℕ → ℕ → ℕ → ℕ
+with_byte a word byte = if nat_eq (a % 2) 0 then word / 256 * 256 + byte % 256 else byte % 256 * 256 + word % 256
+
 -- the word at a place
 abbrev pub loaded : State → Place → Option ℕ
 loaded s (Register r) = Some (reg s r)
@@ -62,3 +70,23 @@ loaded s (Cell a) = word_at s a
 abbrev pub stored : State → Place → ℕ → State × Option Unit
 stored s (Register r) word = (with_reg s r word, Some tt)
 stored s (Cell a) word = if is_place a then (with_word s a word, Some tt) else (s, None)
+
+-- the byte at a place; a register's is its low one
+abbrev pub loaded_byte : State → Place → Option ℕ
+loaded_byte s (Register r) = Some (reg s r % 256)
+loaded_byte s (Cell a) = byte_at s a
+
+abbrev pub stored_byte : State → Place → ℕ → State × Option Unit
+stored_byte s (Register r) byte = (with_reg s r (reg s r / 256 * 256 + byte % 256), Some tt)
+stored_byte s (Cell a) byte = if nat_lt a 57344 then (with_word s a (with_byte a (slice_index s.memory (a / 2)) byte), Some tt) else (s, None)
+
+-- the byte or word at a place
+abbrev pub loaded_by : Bool → State → Place → Option ℕ
+loaded_by byte s p = if byte then loaded_byte s p else loaded s p
+
+abbrev pub stored_by : Bool → State → Place → ℕ → State × Option Unit
+stored_by byte s p value = if byte then stored_byte s p value else stored s p value
+
+-- the flags are set once a store was not stopped by a bus trap
+abbrev pub with_flags : Flags → State × Option Unit → State × Option Unit
+with_flags f p = and_then p (λ s _. (record s { flags = f }, Some tt))

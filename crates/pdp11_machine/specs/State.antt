@@ -20,6 +20,10 @@ abbrev pub not : Bool → Bool
 not true = false
 not false = true
 
+abbrev pub differs : Bool → Bool → Bool
+differs true b = not b
+differs false b = b
+
 abbrev pub reg : State → ℕ → ℕ
 reg s r = slice_index s.registers r
 

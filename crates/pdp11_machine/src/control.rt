@@ -1,10 +1,11 @@
-//! Branches and condition codes.
+//! Branches, condition codes, subroutines and returns from traps.
 
-ghost use Rattle.std.specs.Prelude.{◌≡◌, ℕ, ◌+◌, ◌*◌, ◌%◌, ◌<◌, if◌then◌else◌};
+ghost use Rattle.std.specs.Prelude.{◌≡◌, ℕ, ◌+◌, ◌*◌, ◌%◌, ◌<◌, if◌then◌else◌, Some, None};
 ghost use Rattle.pdp11_machine.specs.State.{State};
-ghost use Rattle.pdp11_machine.specs.Control.{is_taken, branched, with_codes};
+ghost use Rattle.pdp11_machine.specs.Control.{is_taken, branched, with_codes, pushed, popped, called, returned, resumed, counted};
 
 use crate::Machine;
+use pdp11_code::Ea;
 
 impl Machine {
     fn takes_branch(&self, high: u8) -> bool
@@ -57,6 +58,68 @@ impl Machine {
         }
         if bits % 2 == 1 {
             self.carry = set;
+        }
+    }
+}
+
+impl Machine {
+    fn push(&mut self, register: u8) -> Option<()>
+        requires { register < 8 }
+        ensures { (self.new, result) ≡ pushed register self.old }
+    {
+        let place = self.register(6).wrapping_sub(2);
+        self.set_register(6, place);
+        self.write(place, self.register(register))
+    }
+
+    fn pop(&mut self) -> Option<u16>
+        ensures { (self.new, result) ≡ popped self.old }
+    {
+        let place = self.register(6);
+        self.set_register(6, place.wrapping_add(2));
+        self.read(place)
+    }
+
+    pub(crate) fn call(&mut self, register: u8, target: &Ea) -> Option<()>
+        requires { (register < 8) × (target.now.register < 8) }
+        ensures { (self.new, result) ≡ called register target.now self.old }
+    {
+        let address = self.address(false, target.mode, target.register)?;
+        self.push(register)?;
+        self.set_register(register, self.register(7));
+        self.set_register(7, address);
+        Some(())
+    }
+
+    pub(crate) fn return_by(&mut self, register: u8) -> Option<()>
+        requires { register < 8 }
+        ensures { (self.new, result) ≡ returned register self.old }
+    {
+        self.set_register(7, self.register(register));
+        let word = self.pop()?;
+        self.set_register(register, word);
+        Some(())
+    }
+
+    pub(crate) fn resume(&mut self) -> Option<()>
+        ensures { (self.new, result) ≡ resumed self.old }
+    {
+        let place = self.pop()?;
+        self.set_register(7, place);
+        let status = self.pop()?;
+        self.set_status(status);
+        Some(())
+    }
+
+    pub(crate) fn count_down(&mut self, register: u8, back: u8)
+        requires { (register < 8) × (back < 64) }
+        ensures { self.new ≡ counted register back self.old }
+    {
+        let left = self.register(register).wrapping_sub(1);
+        self.set_register(register, left);
+        if left != 0 {
+            let place = self.register(7).wrapping_sub(2 * back as u16);
+            self.set_register(7, place);
         }
     }
 }

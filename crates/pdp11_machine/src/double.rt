@@ -2,32 +2,83 @@
 
 ghost use Rattle.std.specs.Prelude.{◌≡◌, ℕ, ◌+◌, ◌-◌, ◌%◌, ◌<◌, Some, None};
 ghost use Rattle.pdp11_machine.specs.State.{State};
+ghost use Rattle.pdp11_machine.specs.Words.{whole};
 ghost use Rattle.pdp11_machine.specs.Operands.{IsRegistered, placed, loaded, stored};
-ghost use Rattle.pdp11_machine.specs.Double.{moved, compared, added, combined, two_done};
+ghost use Rattle.pdp11_machine.specs.Double.{extended, stored_moved, moved, compared, bits_tested, logic_stored, bits_cleared, bits_set, added, subtracted, combined, is_byte, two_done};
 
-use crate::words::{difference_leaves_range, sum_leaves_range};
+use crate::words::{difference_leaves_range, difference_of, sum_leaves_range};
 use crate::{Machine, Place};
 use pdp11_code::Ea;
 
 impl Machine {
-    fn move_word(&mut self, word: u16, target: Place) -> Option<()>
-        requires { IsRegistered target }
-        ensures { (self.new, result) ≡ moved self.old word target }
+    fn store_moved(&mut self, byte: bool, target: Place, value: u16) -> Option<()>
+        requires registered { IsRegistered target }
+        requires small { value < whole byte }
+        ensures { (self.new, result) ≡ stored_moved byte self.old target value }
+    {
+        match target {
+            Place::Register(register) if byte => {
+                self.set_register(register, extended_byte(value));
+                Some(())
+            }
+            _ => self.store_by(byte, target, value),
+        }
+    }
+
+    fn move_value(&mut self, byte: bool, value: u16, target: Place) -> Option<()>
+        requires registered { IsRegistered target }
+        requires small { value < whole byte }
+        ensures { (self.new, result) ≡ moved byte self.old value target }
     {
         let carry = self.carry;
-        self.store(target, word)?;
-        self.set_flags(word, false, carry);
+        self.store_moved(byte, target, value)?;
+        self.set_flags_by(byte, value, false, carry);
         Some(())
     }
 
-    fn compare(&mut self, word: u16, target: Place) -> Option<()>
+    fn compare(&mut self, byte: bool, value: u16, target: Place) -> Option<()>
         requires { IsRegistered target }
-        ensures { (self.new, result) ≡ compared self.old word target }
+        ensures { (self.new, result) ≡ compared byte self.old value target }
     {
-        let old = self.load(target)?;
-        let difference = word.wrapping_sub(old);
-        self.set_flags(difference, difference_leaves_range(word, old), word < old);
+        let old = self.load_by(byte, target)?;
+        let overflow = difference_leaves_range(byte, value, old);
+        self.set_flags_by(byte, difference_of(byte, value, old), overflow, value < old);
         Some(())
+    }
+
+    fn test_bits(&mut self, byte: bool, value: u16, target: Place) -> Option<()>
+        requires { IsRegistered target }
+        ensures { (self.new, result) ≡ bits_tested byte self.old value target }
+    {
+        let old = self.load_by(byte, target)?;
+        self.set_flags_by(byte, value & old, false, self.carry);
+        Some(())
+    }
+
+    pub(crate) fn store_logic(&mut self, byte: bool, target: Place, value: u16) -> Option<()>
+        requires { IsRegistered target }
+        ensures { (self.new, result) ≡ logic_stored byte self.old target value }
+    {
+        let carry = self.carry;
+        self.store_by(byte, target, value)?;
+        self.set_flags_by(byte, value, false, carry);
+        Some(())
+    }
+
+    fn clear_bits(&mut self, byte: bool, value: u16, target: Place) -> Option<()>
+        requires { IsRegistered target }
+        ensures { (self.new, result) ≡ bits_cleared byte self.old value target }
+    {
+        let old = self.load_by(byte, target)?;
+        self.store_logic(byte, target, old & (65535 - value))
+    }
+
+    fn set_bits(&mut self, byte: bool, value: u16, target: Place) -> Option<()>
+        requires { IsRegistered target }
+        ensures { (self.new, result) ≡ bits_set byte self.old value target }
+    {
+        let old = self.load_by(byte, target)?;
+        self.store_logic(byte, target, old | value)
     }
 
     fn add(&mut self, word: u16, target: Place) -> Option<()>
@@ -41,24 +92,57 @@ impl Machine {
         Some(())
     }
 
-    fn combine(&mut self, op: u8, word: u16, target: Place) -> Option<()>
+    fn subtract(&mut self, word: u16, target: Place) -> Option<()>
         requires { IsRegistered target }
-        ensures { (self.new, result) ≡ combined op self.old word target }
+        ensures { (self.new, result) ≡ subtracted self.old word target }
+    {
+        let old = self.load(target)?;
+        let left = difference_of(false, old, word);
+        self.store(target, left)?;
+        self.set_flags(left, difference_leaves_range(false, old, word), old < word);
+        Some(())
+    }
+
+    fn combine(&mut self, op: u8, high: bool, value: u16, target: Place) -> Option<()>
+        requires registered { IsRegistered target }
+        requires small { value < whole (is_byte op high) }
+        ensures { (self.new, result) ≡ combined op high self.old value target }
     {
         match op {
-            1 => self.move_word(word, target),
-            2 => self.compare(word, target),
-            _ => self.add(word, target),
+            1 => self.move_value(high, value, target),
+            2 => self.compare(high, value, target),
+            3 => self.test_bits(high, value, target),
+            4 => self.clear_bits(high, value, target),
+            5 => self.set_bits(high, value, target),
+            _ => if high {
+                self.subtract(value, target)
+            } else {
+                self.add(value, target)
+            },
         }
     }
 
-    pub(crate) fn two(&mut self, op: u8, source: &Ea, target: &Ea) -> Option<()>
+    pub(crate) fn two(&mut self, op: u8, high: bool, source: &Ea, target: &Ea) -> Option<()>
         requires { (source.now.register < 8) × (target.now.register < 8) }
-        ensures { (self.new, result) ≡ two_done op source.now target.now self.old }
+        ensures { (self.new, result) ≡ two_done op high source.now target.now self.old }
     {
-        let from = self.place(false, source.mode, source.register)?;
-        let word = self.load(from)?;
-        let to = self.place(false, target.mode, target.register)?;
-        self.combine(op, word, to)
+        let byte = has_bytes(op, high);
+        let from = self.place(byte, source.mode, source.register)?;
+        let value = self.load_by(byte, from)?;
+        let to = self.place(byte, target.mode, target.register)?;
+        self.combine(op, high, value, to)
     }
+}
+
+fn extended_byte(byte: u16) -> u16
+    requires { byte < 256 }
+    ensures { result ≡ extended byte }
+{
+    if byte >= 128 { 65280 + byte } else { byte }
+}
+
+fn has_bytes(op: u8, high: bool) -> bool
+    ensures { result ≡ is_byte op high }
+{
+    high && op != 6
 }

@@ -7,9 +7,12 @@ ghost use Rattle.pdp11_machine.specs.State.{State, Flags, IsMachine, reg, with_r
 ghost use Rattle.pdp11_machine.specs.TakeTrap.{trap_taken};
 ghost use Rattle.pdp11_machine.specs.Step.{machine_step};
 
+mod arithmetic;
 mod control;
 mod double;
+mod extended;
 mod operands;
+mod outcome;
 mod single;
 mod step;
 mod take_trap;

@@ -2,12 +2,13 @@
 
 ghost use Rattle.std.specs.Prelude.{◌≡◌, ℕ, ◌+◌, ◌-◌, ◌*◌, ◌/◌, ◌%◌, ◌<◌, ◌≤◌, List, length, Some, None, if◌then◌else◌, IfSome};
 ghost use Rattle.pdp11_machine.specs.State.{State, reg, with_reg, is_place, word_at, with_word};
-ghost use Rattle.pdp11_machine.specs.Operands.{fetched, step_of, incremented, decremented, indexed, behind, addressed, placed, IsRegistered, loaded, stored};
+ghost use Rattle.pdp11_machine.specs.Operands.{fetched, step_of, incremented, decremented, indexed, behind, addressed, placed, IsRegistered, loaded, stored, byte_at, with_byte, loaded_byte, stored_byte, loaded_by, stored_by};
+ghost use Rattle.pdp11_machine.specs.Words.{whole};
 
 use crate::{Machine, Place};
 
 impl Machine {
-    fn read(&self, address: u16) -> Option<u16>
+    pub(crate) fn read(&self, address: u16) -> Option<u16>
         ensures { result ≡ word_at self.now address }
     {
         if address % 2 == 0 && address < 57344 {
@@ -129,6 +130,91 @@ impl Machine {
             }
             Place::Cell(address) => self.write(address, word),
         }
+    }
+}
+
+impl Machine {
+    fn read_byte(&self, address: u16) -> Option<u16>
+        ensures value { result ≡ byte_at self.now address }
+        ensures small { IfSome result (λ byte. byte < 256) }
+    {
+        if address < 57344 {
+            let word = self.memory[(address / 2) as usize];
+            Some(if address % 2 == 0 {
+                word % 256
+            } else {
+                word / 256
+            })
+        } else {
+            None
+        }
+    }
+
+    fn load_byte(&self, place: Place) -> Option<u16>
+        requires { IsRegistered place }
+        ensures value { result ≡ loaded_byte self.now place }
+        ensures small { IfSome result (λ byte. byte < 256) }
+    {
+        match place {
+            Place::Register(register) => Some(self.register(register) % 256),
+            Place::Cell(address) => self.read_byte(address),
+        }
+    }
+
+    fn store_byte(&mut self, place: Place, byte: u16) -> Option<()>
+        requires { IsRegistered place }
+        ensures { (self.new, result) ≡ stored_byte self.old place byte }
+    {
+        match place {
+            Place::Register(register) => {
+                let word = self.register(register) / 256 * 256 + byte % 256;
+                self.set_register(register, word);
+                Some(())
+            }
+            Place::Cell(address) => {
+                if address < 57344 {
+                    let word = self.memory[(address / 2) as usize];
+                    self.memory[(address / 2) as usize] = merged(address, word, byte);
+                    Some(())
+                } else {
+                    None
+                }
+            }
+        }
+    }
+
+    pub(crate) fn load_by(&self, byte: bool, place: Place) -> Option<u16>
+        requires { IsRegistered place }
+        ensures value { result ≡ loaded_by byte self.now place }
+        ensures small { IfSome result (λ value. value < whole byte) }
+    {
+        if byte {
+            self.load_byte(place)
+        } else {
+            self.load(place)
+        }
+    }
+
+    pub(crate) fn store_by(&mut self, byte: bool, place: Place, value: u16) -> Option<()>
+        requires { IsRegistered place }
+        ensures { (self.new, result) ≡ stored_by byte self.old place value }
+    {
+        if byte {
+            self.store_byte(place, value)
+        } else {
+            self.store(place, value)
+        }
+    }
+}
+
+// A word of which the byte of this address is replaced.
+fn merged(address: u16, word: u16, byte: u16) -> u16
+    ensures { result ≡ with_byte address word byte }
+{
+    if address % 2 == 0 {
+        word / 256 * 256 + byte % 256
+    } else {
+        byte % 256 * 256 + word % 256
     }
 }
 

@@ -2,9 +2,10 @@
 
 ghost use Rattle.std.specs.Prelude.{◌≡◌, ℕ, ◌<◌, Some, None};
 ghost use Rattle.pdp11_machine.specs.State.{State};
-ghost use Rattle.pdp11_machine.specs.Single.{jumped, cleared, one_done};
+ghost use Rattle.pdp11_machine.specs.Single.{jumped, cleared, tested, swapped, sign_stored, changed, one_done};
 
 use crate::Machine;
+use crate::outcome::apply;
 use pdp11_code::Ea;
 
 impl Machine {
@@ -17,23 +18,72 @@ impl Machine {
         Some(())
     }
 
-    fn clear(&mut self, target: &Ea) -> Option<()>
+    fn clear(&mut self, byte: bool, target: &Ea) -> Option<()>
         requires { target.now.register < 8 }
-        ensures { (self.new, result) ≡ cleared target.now self.old }
+        ensures { (self.new, result) ≡ cleared byte target.now self.old }
     {
-        let place = self.place(false, target.mode, target.register)?;
-        self.store(place, 0)?;
+        let place = self.place(byte, target.mode, target.register)?;
+        self.store_by(byte, place, 0)?;
         self.set_flags(0, false, false);
         Some(())
     }
 
-    pub(crate) fn one(&mut self, op: u8, target: &Ea) -> Option<()>
+    fn test(&mut self, byte: bool, target: &Ea) -> Option<()>
         requires { target.now.register < 8 }
-        ensures { (self.new, result) ≡ one_done op target.now self.old }
+        ensures { (self.new, result) ≡ tested byte target.now self.old }
+    {
+        let place = self.place(byte, target.mode, target.register)?;
+        let value = self.load_by(byte, place)?;
+        self.set_flags_by(byte, value, false, false);
+        Some(())
+    }
+
+    fn swap_bytes(&mut self, target: &Ea) -> Option<()>
+        requires { target.now.register < 8 }
+        ensures { (self.new, result) ≡ swapped target.now self.old }
+    {
+        let place = self.place(false, target.mode, target.register)?;
+        let old = self.load(place)?;
+        self.store(place, old / 256 + old % 256 * 256)?;
+        self.set_flags_by(true, old / 256, false, false);
+        Some(())
+    }
+
+    fn store_sign(&mut self, target: &Ea) -> Option<()>
+        requires { target.now.register < 8 }
+        ensures { (self.new, result) ≡ sign_stored target.now self.old }
+    {
+        let place = self.place(false, target.mode, target.register)?;
+        let word = if self.negative { 65535 } else { 0 };
+        self.store(place, word)?;
+        self.zero = !self.negative;
+        self.overflow = false;
+        Some(())
+    }
+
+    fn change(&mut self, op: u8, byte: bool, target: &Ea) -> Option<()>
+        requires { target.now.register < 8 }
+        ensures { (self.new, result) ≡ changed op byte target.now self.old }
+    {
+        let place = self.place(byte, target.mode, target.register)?;
+        let old = self.load_by(byte, place)?;
+        let made = apply(op, byte, self.carry, old);
+        self.store_by(byte, place, made.value)?;
+        self.set_flags_by(byte, made.value, made.overflow, made.carry);
+        Some(())
+    }
+
+    pub(crate) fn one(&mut self, op: u8, high: bool, target: &Ea) -> Option<()>
+        requires { target.now.register < 8 }
+        ensures { (self.new, result) ≡ one_done op high target.now self.old }
     {
         match op {
-            1 => self.jump(target),
-            _ => self.clear(target),
+            0o01 => self.jump(target),
+            0o03 => self.swap_bytes(target),
+            0o50 => self.clear(high, target),
+            0o57 => self.test(high, target),
+            0o67 => self.store_sign(target),
+            _ => self.change(op, high, target),
         }
     }
 }

@@ -3,7 +3,7 @@
 ghost use Rattle.std.specs.Prelude.{◌≡◌, ℕ, ◌<◌, Some, None};
 ghost use Rattle.pdp11_code.specs.Write.{IsInstr};
 ghost use Rattle.pdp11_machine.specs.State.{State};
-ghost use Rattle.pdp11_machine.specs.Step.{end_at, bare_end, done, machine_step};
+ghost use Rattle.pdp11_machine.specs.Step.{end_at, bare_done, done, machine_step};
 
 use crate::{Machine, StepEnd};
 use pdp11_code::{Instr, decode};
@@ -14,6 +14,8 @@ const BUS: u16 = 0o4;
 const RESERVED: u16 = 0o10;
 
 const BREAKPOINT: u16 = 0o14;
+
+const INPUT_OUTPUT: u16 = 0o20;
 
 const EMULATOR: u16 = 0o30;
 
@@ -37,8 +39,20 @@ impl Machine {
         ensures { (self.new, result) ≡ done instr.now word self.old }
     {
         match instr {
-            Instr::Two(op, _, source, target) => end_of(word, self.two(*op, source, target)),
-            Instr::One(op, _, target) => end_of(word, self.one(*op, target)),
+            Instr::Two(op, high, source, target) => end_of(
+                word,
+                self.two(*op, *high, source, target),
+            ),
+            Instr::One(op, high, target) => end_of(word, self.one(*op, *high, target)),
+            Instr::Extended(op, register, operand) => {
+                end_of(word, self.extended(*op, *register, operand))
+            }
+            Instr::Jsr(register, target) => end_of(word, self.call(*register, target)),
+            Instr::Rts(register) => end_of(word, self.return_by(*register)),
+            Instr::Sob(register, back) => {
+                self.count_down(*register, *back);
+                StepEnd::Went
+            }
             Instr::Branch(high, low) => {
                 self.branch(*high, *low);
                 StepEnd::Went
@@ -49,10 +63,18 @@ impl Machine {
                 self.set_codes(*set, *bits);
                 StepEnd::Went
             }
-            Instr::Bare(low) => end_of_bare(*low, word),
-            Instr::Extended(_, _, _) | Instr::Jsr(_, _) | Instr::Rts(_) | Instr::Sob(_, _) => {
-                StepEnd::Trap(RESERVED, word)
-            }
+            Instr::Bare(low) => self.bare(*low, word),
+        }
+    }
+
+    fn bare(&mut self, low: u8, word: u16) -> StepEnd
+        ensures { (self.new, result) ≡ bare_done low word self.old }
+    {
+        match low {
+            0 => StepEnd::Halted,
+            3 => StepEnd::Trap(BREAKPOINT, word),
+            4 => StepEnd::Trap(INPUT_OUTPUT, word),
+            _ => end_of(word, self.resume()),
         }
     }
 }
@@ -64,15 +86,5 @@ fn end_of(word: u16, part: Option<()>) -> StepEnd
     match part {
         Some(_) => StepEnd::Went,
         None => StepEnd::Trap(BUS, word),
-    }
-}
-
-fn end_of_bare(low: u8, word: u16) -> StepEnd
-    ensures { result ≡ bare_end low word }
-{
-    if low == 0 {
-        StepEnd::Halted
-    } else {
-        StepEnd::Trap(BREAKPOINT, word)
     }
 }
