@@ -3,3 +3,4 @@ pub mod Good
 pub mod Go
 pub mod After
 pub mod Loaded
+mod Examples

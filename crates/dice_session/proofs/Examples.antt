@@ -1,0 +1,39 @@
+-- Transcripts of worked scripts.
+use Rattle.std.proofs.Common.{◌≡◌, List, [], ◌∷◌, ◌++◌, Some, None, refl}
+use Rattle.std.specs.Prelude.{codes}
+use Rattle.std.specs.Fmt.{digits}
+use Rattle.pascal_semantics.specs.declared.form.Operand.TheVariants.{Global, Number}
+use Rattle.pascal_semantics.specs.declared.form.SimpleForm.TheVariants.{Assign, WriteLine}
+use Rattle.pascal_semantics.specs.Run.{settled, driven}
+use Rattle.simple_script.specs.Program.{Plain}
+use Rattle.simple_script.specs.Script.{Load, Run}
+use Rattle.dice_session.specs.World.{line, transcript_of}
+
+-- program m; var i, s: integer; begin i := 2; s := i + 40; writeln(s:1) end.
+abbrev answer : Plain
+answer = record {
+  ident = codes "m";
+  variables = codes "i" ∷ codes "s" ∷ [];
+  statements = Assign 0 (record { first = Number 2; second = None }) ∷ Assign 1 (record { first = Global 0; second = Some (Number 40) }) ∷ WriteLine (record { first = Global 1; second = None }) (Some 1) ∷ [];
+}
+
+answer_told : transcript_of (Load answer ∷ Run 1000000 ∷ []) ≡ line (codes "loaded 4 blocks 188 words") ++ line (codes "output 3") ++ line (codes "42") ++ line (codes "ended")
+unfolding settled driven digits
+answer_told = refl
+
+-- program o; var x: integer; begin x := 32767; x := x + 1 end.
+abbrev too_large : Plain
+too_large = record {
+  ident = codes "o";
+  variables = codes "x" ∷ [];
+  statements = Assign 0 (record { first = Number 32767; second = None }) ∷ Assign 0 (record { first = Global 0; second = Some (Number 1) }) ∷ [];
+}
+
+too_large_told : transcript_of (Load too_large ∷ Run 1000000 ∷ []) ≡ line (codes "loaded 3 blocks 132 words") ++ line (codes "error 3 at 5")
+unfolding settled driven digits
+too_large_told = refl
+
+-- a run of fewer gates stops before its next statement, and another goes on from there
+answer_twice : transcript_of (Load answer ∷ Run 1 ∷ Run 1 ∷ Run 5 ∷ []) ≡ line (codes "loaded 4 blocks 188 words") ++ line (codes "stopped at 5") ++ line (codes "stopped at 6") ++ line (codes "output 3") ++ line (codes "42") ++ line (codes "ended")
+unfolding settled driven digits
+answer_twice = refl
