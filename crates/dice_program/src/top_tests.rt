@@ -109,7 +109,7 @@ fn a_source_that_fails(rt: HostRuntime) -> Result<(), Fail> {
             };
             let (status, told) = run_of(rt.alloc(), SUM.as_bytes(), &[], outside)?;
             // The last call finds the end.
-            if call as usize <= calls(SUM.len(), step) + 1 {
+            if call as usize <= calls(SUM.len(), step).saturating_add(1) {
                 assert_eq!(rt; status, Status::ReadFault, "{step} {call}");
                 assert!(rt; told.bytes().is_empty(), "{step} {call}");
             } else {
@@ -131,7 +131,7 @@ fn a_sink_that_fails(rt: HostRuntime) -> Result<(), Fail> {
             };
             let (status, told) = run_of(rt.alloc(), SUM.as_bytes(), &[], outside)?;
             let whole = SUM_TOLD.as_bytes();
-            let needed = calls(SUM_LOADED.len(), step) + calls(SUM_RAN.len(), step);
+            let needed = calls(SUM_LOADED.len(), step).saturating_add(calls(SUM_RAN.len(), step));
             if call as usize <= needed {
                 assert_eq!(rt; status, Status::WriteFault, "{step} {call}");
                 let count = told.bytes().len();
