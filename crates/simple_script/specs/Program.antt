@@ -1,4 +1,4 @@
--- Simple programs as Pascal programs (ISO 7185:1990, 6.2.1 blocks, 6.5.1 variables, 6.8.2.2 assignment, 6.9.5 writeln).
+-- Simple programs as Pascal programs (ISO 7185:1990, 6.2.1 blocks, 6.5.1 variables, 6.8.2.2 assignment, 6.9.4 writeln).
 use Rattle.std.specs.Prelude.{◌≢◌, ℕ, ◌<◌, ◌≤◌, List, [], ◌∷◌, ◌++◌, length, slice_index_or, codes, None, Some, IfSome}
 use Rattle.std.specs.List.{AllByRecursion}
 use Rattle.std.specs.declared.option.Option.{Option}
