@@ -1,0 +1,3 @@
+pub mod Words
+pub mod Keyword
+pub mod Command

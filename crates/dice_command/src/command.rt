@@ -1,0 +1,114 @@
+//! Commands.
+ghost use Rattle.std.specs.Prelude.{◌≡◌};
+ghost use Rattle.dice_command.specs.Command.{command_of, by_keyword, alone, one_number, fits, is_side};
+
+use crate::keyword::{Arguments, Keyword, keyword_of};
+use crate::words::{after_word, is_identifier, is_text, number_of, word_of};
+
+/// A line of more bytes is no command.
+const LONGEST_LINE: usize = 4096;
+
+/// What is wrong with a line.
+#[derive(Clone, Copy, Debug, PartialEq, Eq)]
+pub enum CommandFault {
+    /// It has more than 4,096 bytes.
+    LineTooLong,
+    /// Its first word is no command, a word is missing, or words are left over. A line with a byte other than a tab
+    /// and the printing characters is no command.
+    NotACommand,
+    /// No number from 1 to 1,000,000 stands where one is wanted.
+    BadNumber,
+}
+
+/// What a line asks for.
+#[derive(Clone, Copy, Debug, PartialEq, Eq)]
+pub enum LineCommand {
+    /// Nothing: the line is empty, or all of it is spaces and tabs.
+    Blank,
+    /// To load the program whose text stands in the lines that follow, up to a line `.`.
+    Load,
+    /// To run over so many gates, 1 to 1,000,000.
+    Run(u32),
+    /// To end the script.
+    Quit,
+    /// A command that is not built yet.
+    Unbuilt,
+    /// The line is no command.
+    Bad(CommandFault),
+}
+
+/// The command of a line, without the line's end.
+pub fn parse_command(line: &[u8]) -> LineCommand
+    ensures { result ≡ command_of line.now }
+{
+    if line.len() > LONGEST_LINE {
+        return LineCommand::Bad(CommandFault::LineTooLong);
+    }
+    let word = word_of(line);
+    if word.is_empty() {
+        return LineCommand::Blank;
+    }
+    if !is_text(line) {
+        return LineCommand::Bad(CommandFault::NotACommand);
+    }
+    let rest = after_word(line);
+    match keyword_of(word) {
+        None => LineCommand::Bad(CommandFault::NotACommand),
+        Some(keyword) => with_arguments(keyword, rest),
+    }
+}
+
+fn with_arguments(keyword: Keyword, rest: &[u8]) -> LineCommand
+    ensures { result ≡ by_keyword keyword rest.now }
+{
+    match keyword {
+        Keyword::Load => alone(LineCommand::Load, rest),
+        Keyword::Quit => alone(LineCommand::Quit, rest),
+        Keyword::Run => run(rest),
+        Keyword::Unbuilt(arguments) if fits(arguments, rest) => LineCommand::Unbuilt,
+        Keyword::Unbuilt(_) => LineCommand::Bad(CommandFault::NotACommand),
+    }
+}
+
+fn alone(command: LineCommand, rest: &[u8]) -> LineCommand
+    ensures { result ≡ alone command rest.now }
+{
+    if word_of(rest).is_empty() {
+        command
+    } else {
+        LineCommand::Bad(CommandFault::NotACommand)
+    }
+}
+
+fn run(rest: &[u8]) -> LineCommand
+    ensures { result ≡ one_number rest.now }
+{
+    if !word_of(after_word(rest)).is_empty() {
+        return LineCommand::Bad(CommandFault::NotACommand);
+    }
+    match number_of(word_of(rest)) {
+        Some(gates) => LineCommand::Run(gates),
+        None => LineCommand::Bad(CommandFault::BadNumber),
+    }
+}
+
+// Whether a command that is not built yet may have this behind its first word.
+fn fits(arguments: Arguments, rest: &[u8]) -> bool
+    ensures { result ≡ fits arguments rest.now }
+{
+    match arguments {
+        Arguments::Nothing => word_of(rest).is_empty(),
+        Arguments::Number => word_of(after_word(rest)).is_empty(),
+        Arguments::Text => true,
+        Arguments::Side => is_side(word_of(rest)),
+        Arguments::Identifier => {
+            is_identifier(word_of(rest)) && word_of(after_word(after_word(rest))).is_empty()
+        }
+    }
+}
+
+fn is_side(word: &[u8]) -> bool
+    ensures { result ≡ is_side word.now }
+{
+    word == b"before".as_slice() || word == b"after".as_slice() || word == b"first".as_slice()
+}

@@ -1,0 +1,8 @@
+//! The lines of a script, read one by one from a source.
+#![tactic(auto)]
+
+mod line;
+#[cfg(test)]
+mod tests;
+
+pub use line::{Got, LineFault, next_line, stripped};
