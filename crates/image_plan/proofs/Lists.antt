@@ -1,10 +1,11 @@
 -- Lists of statements and of their codes.
-use Rattle.std.proofs.Common.{◌≡◌, ℕ, zero, suc, ◌+◌, ◌<◌, ◌≤◌, List, [], ◌∷◌, ◌++◌, length, get_or, take, take_all, refl, ap, ◌∙◌, subst, arith}
+use Rattle.std.proofs.Common.{◌≡◌, ℕ, zero, suc, ◌+◌, ◌<◌, ◌≤◌, List, [], ◌∷◌, ◌++◌, length, get_or, take, take_all, None, refl, ap, ◌∙◌, subst, arith}
 use Rattle.std.proofs.Math.Seq.{take-suc}
 use Rattle.std.specs.List.{AllByRecursion}
 use Rattle.code_image.specs.declared.block.BlockCode.{BlockCode}
 use Rattle.pascal_semantics.specs.declared.form.Statement.{Statement}
-use Rattle.pascal_semantics.specs.declared.form.SimpleForm.TheVariants.{Empty}
+use Rattle.pascal_semantics.specs.declared.form.Operand.TheVariants.{Global}
+use Rattle.pascal_semantics.specs.declared.form.SimpleForm.TheVariants.{Assign}
 use Rattle.statement_code.specs.Forms.{StatementBlock}
 use Rattle.statement_code.specs.Emitted.{IsCodeOf, IsStatementCode}
 use Rattle.image_plan.specs.Codes.{AreCodes, AllHaveOneLink, words_in}
@@ -18,7 +19,7 @@ AreCodes-push (g ∷ fs) [] f c h is parts = absurd h
 AreCodes-push (g ∷ fs) (d ∷ cs) f c h is parts = (h.0, AreCodes-push fs cs f c h.1 is parts)
 
 abbrev pub zero_statement : Statement
-zero_statement = record { name = 0; form = Empty }
+zero_statement = record { name = 0; form = Assign 0 (record { first = Global 0; second = None }) }
 
 -- a fact of all, at one
 pub all_at : (P : Statement → Type 0) (xs : List Statement) (i : ℕ) (d : Statement) → AllByRecursion P xs → i < length xs → P (get_or xs i d)

@@ -58,7 +58,12 @@ fn loads_statements_in_text_order(rt: HostRuntime) -> Result<(), Fail> {
     ];
     let words = load_words(rt.alloc(), &statements)?;
     assert_eq!(rt; words.len(), 192);
-    let gates = [(32, 0o000240), (68, 0o000240), (132, 0o000240), (184, 0o000240)];
+    let gates = [
+        (32, 0o000240),
+        (68, 0o000240),
+        (132, 0o000240),
+        (184, 0o000240),
+    ];
     let links = [(16, 576), (38, 648), (82, 776), (141, 880), (186, 546)];
     for (at, word) in gates.into_iter().chain(links) {
         assert_eq!(rt; words.get(at), Some(&word), "at {at}");
