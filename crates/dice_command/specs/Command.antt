@@ -1,5 +1,5 @@
 -- Which command a line is.
-use Rattle.std.specs.Prelude.{ℕ, Bool, true, ◌&&◌, ◌||◌, not, nat_lt, if◌then◌else◌, List, length, bytes_eq, codes, Option, None, Some}
+use Rattle.std.specs.Prelude.{ℕ, ◌≤◌, Bool, true, ◌&&◌, ◌||◌, not, nat_lt, if◌then◌else◌, List, length, bytes_eq, codes, Option, None, Some}
 use Rattle.dice_command.specs.Words.{is_text_byte, every, is_empty, word_of, after_word, number_of, is_identifier}
 use Rattle.dice_command.specs.declared.keyword.Arguments.{Arguments}
 use Rattle.dice_command.specs.declared.keyword.Arguments.TheVariants.{Nothing, Number, Text, Side, Identifier}
@@ -9,6 +9,11 @@ use Rattle.dice_command.specs.Keyword.{keyword_of}
 use Rattle.dice_command.specs.declared.command.CommandFault.TheVariants.{LineTooLong, NotACommand, BadNumber}
 use Rattle.dice_command.specs.declared.command.LineCommand.{LineCommand}
 use Rattle.dice_command.specs.declared.command.LineCommand.TheVariants.{Blank, Load, Run, Quit, Unbuilt, Bad}
+
+-- numbers are in range
+abbrev pub IsWellRead : LineCommand → Type 0
+IsWellRead (Run n) = (1 ≤ n) × (n ≤ 1000000)
+IsWellRead other = Unit {0}
 
 -- a command of one word
 abbrev pub alone : LineCommand → List ℕ → LineCommand

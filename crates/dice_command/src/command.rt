@@ -1,6 +1,6 @@
 //! Commands.
 ghost use Rattle.std.specs.Prelude.{◌≡◌};
-ghost use Rattle.dice_command.specs.Command.{command_of, by_keyword, alone, one_number, fits, is_side};
+ghost use Rattle.dice_command.specs.Command.{command_of, by_keyword, alone, one_number, fits, is_side, IsWellRead};
 
 use crate::keyword::{Arguments, Keyword, keyword_of};
 use crate::words::{after_word, is_identifier, is_text, number_of, word_of};
@@ -39,7 +39,8 @@ pub enum LineCommand {
 
 /// The command of a line, without the line's end.
 pub fn parse_command(line: &[u8]) -> LineCommand
-    ensures { result ≡ command_of line.now }
+    ensures command { result ≡ command_of line.now }
+    ensures well_read { IsWellRead result }
 {
     if line.len() > LONGEST_LINE {
         return LineCommand::Bad(CommandFault::LineTooLong);
@@ -59,7 +60,8 @@ pub fn parse_command(line: &[u8]) -> LineCommand
 }
 
 fn with_arguments(keyword: Keyword, rest: &[u8]) -> LineCommand
-    ensures { result ≡ by_keyword keyword rest.now }
+    ensures command { result ≡ by_keyword keyword rest.now }
+    ensures well_read { IsWellRead result }
 {
     match keyword {
         Keyword::Load => alone(LineCommand::Load, rest),
@@ -71,7 +73,8 @@ fn with_arguments(keyword: Keyword, rest: &[u8]) -> LineCommand
 }
 
 fn alone(command: LineCommand, rest: &[u8]) -> LineCommand
-    ensures { result ≡ alone command rest.now }
+    ensures command { result ≡ alone command rest.now }
+    ensures well_read { IsWellRead command → IsWellRead result }
 {
     if word_of(rest).is_empty() {
         command
@@ -81,7 +84,8 @@ fn alone(command: LineCommand, rest: &[u8]) -> LineCommand
 }
 
 fn run(rest: &[u8]) -> LineCommand
-    ensures { result ≡ one_number rest.now }
+    ensures command { result ≡ one_number rest.now }
+    ensures well_read { IsWellRead result }
 {
     if !word_of(after_word(rest)).is_empty() {
         return LineCommand::Bad(CommandFault::NotACommand);

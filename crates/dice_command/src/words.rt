@@ -1,5 +1,5 @@
 //! The words of a line.
-ghost use Rattle.std.specs.Prelude.{◌≡◌, ◌≤◌, ◌&&◌, length, nat_le, if◌then◌else◌, Some, None};
+ghost use Rattle.std.specs.Prelude.{◌≡◌, ◌≤◌, ◌&&◌, length, nat_le, if◌then◌else◌, Some, None, IfSome};
 ghost use Rattle.dice_base.specs.Lexemes.{value_of, digit_byte, word_byte, class, is_letter};
 ghost use Rattle.pascal_scanner.specs.Longest.{front, past};
 ghost use Rattle.dice_command.specs.Words.{is_blank, is_word_byte, is_text_byte, every, word_of, after_word, number_of, is_identifier};
@@ -117,6 +117,7 @@ fn are_digits(word: &[u8]) -> bool
 /// The value of decimal digits, where it is 1 to 1,000,000.
 pub(crate) fn number_of(word: &[u8]) -> Option<u32>
     ensures value { result ≡ number_of word.now }
+    ensures range { IfSome result (λ n. (1 ≤ n) × (n ≤ 1000000)) }
 {
     if are_digits(word) {
         small_value(word)
@@ -127,14 +128,16 @@ pub(crate) fn number_of(word: &[u8]) -> Option<u32>
 
 // The value of digits, where it is 1 to 1,000,000.
 fn small_value(digits: &[u8]) -> Option<u32>
-    ensures { result ≡ (if nat_le 1 (value_of digits.now) && nat_le (value_of digits.now) 1000000 then Some (value_of digits.now) else None) }
+    ensures range { IfSome result (λ n. (1 ≤ n) × (n ≤ 1000000)) }
+    ensures value { result ≡ (if nat_le 1 (value_of digits.now) && nat_le (value_of digits.now) 1000000 then Some (value_of digits.now) else None) }
 {
     let value = capped_value(digits)?;
     if value == 0 { None } else { Some(value) }
 }
 
 fn capped_value(digits: &[u8]) -> Option<u32>
-    ensures { result ≡ (if nat_le (value_of digits.now) 1000000 then Some (value_of digits.now) else None) }
+    ensures range { IfSome result (λ n. n ≤ 1000000) }
+    ensures value { result ≡ (if nat_le (value_of digits.now) 1000000 then Some (value_of digits.now) else None) }
 {
     let mut value: u32 = 0;
     for digit in digits {

@@ -1,4 +1,6 @@
-mod Fronts
-pub mod Served
-pub mod Simple
-pub mod Script
+pub mod Pieces
+pub mod Commands
+pub mod Turns
+pub mod Serving
+pub mod Exits
+pub mod Whole

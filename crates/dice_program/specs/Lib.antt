@@ -1,4 +1,4 @@
-pub mod Read
 pub mod Status
+pub mod Script
+pub mod Turns
 pub mod Top
-pub mod Serve

@@ -1,14 +1,9 @@
 //! The program `dice11`: a script on standard input, and its transcript on standard output.
 #![tactic(auto)]
 
-mod naming;
-mod read;
+mod serve;
 mod status;
-#[cfg(test)]
-mod tests;
 mod top;
-#[cfg(test)]
-mod top_tests;
 
 use dice_base::{NoMemory, StdSink, StdSource};
 use pdp11_machine::Machine;

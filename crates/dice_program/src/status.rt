@@ -12,6 +12,8 @@ pub enum Status {
     ReadFault,
     /// The transcript could not be written.
     WriteFault,
+    /// The script has too many lines or bytes.
+    TooMany,
     /// Memory was refused.
     NoMemory,
 }
@@ -28,6 +30,7 @@ impl Status {
             Status::Usage => 2,
             Status::ReadFault => 3,
             Status::WriteFault => 4,
+            Status::TooMany => 6,
             Status::NoMemory => 7,
         }
     }

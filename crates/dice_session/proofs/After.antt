@@ -27,8 +27,8 @@ use Rattle.statement_code.specs.Forms.{BlockForm, Store, HasFrame, simple}
 use Rattle.image_plan.specs.Links.{blocks_of}
 use Rattle.image_plan.specs.Load.{place_from, place_of, placed, HasParts}
 use Rattle.image_plan.proofs.Laid.{is_same}
-use Rattle.dice_session.specs.World.{line, newest_name, ending_of, written_part}
-use Rattle.dice_session.specs.Places.{name_from, name_at, ending_told}
+use Rattle.dice_session.specs.World.{line, newest_name, ending_of, written_part, has_ended, has_ended_by}
+use Rattle.dice_session.specs.Places.{name_from, name_at, ending_told, ends}
 use Rattle.dice_session.specs.Represents.{AtGate, AtNewest, StandsAt, FramesStand}
 use Rattle.dice_session.specs.Simulates.{IsWellFormed, IsWellFormedBy, Simulates, CanRunFrom, Ran}
 use Rattle.dice_session.proofs.Stages.{store_of, stage_by, stage_of, unmarked, HasRunBy}
@@ -90,6 +90,7 @@ name_in ss blocks n b at places e (lo, hi) = named_at ss n b.place (length b.wor
 
 pub record After (ss : List Statement) (t : PascalState) (r : MachineState × ConsoleState × Went) : Type 0 where
   pub output : r.1.output ≡ t.output
+  pub over : ends r.2.end ≡ has_ended t
   pub ending : ending_told ss r.2.end (reg r.0 7 / 2) ≡ ending_of t.status t.activations
   pub stands : (k : ConsoleState) → k.output ≡ [] → Simulates ss t r.0 k
   pub formed : IsWellFormed ss t
@@ -119,6 +120,7 @@ record Stands (es : ℕ → Option Block) (x : Status) (t : PascalState) (c : Cp
 -- a machine that was left, in parts
 record LeftBy (ss : List Statement) (es : ℕ → Option Block) (gates count : ℕ) (x : Status) (t : PascalState) (c : Cpu) : Type 0 where
   output : (left_at (stage_by x t) c).console.output ≡ t.output
+  over : ends (run_end gates count (stage_by x t)) ≡ has_ended_by x
   same : (left_at (stage_by x t) c).mem ≡ c.mem
   ending : ending_told ss (run_end gates count (stage_by x t)) (left_at (stage_by x t) c).pc ≡ ending_of x t.activations
   stands : (k : ConsoleState) → Stands es x t (record (left_at (stage_by x t) c) { console = k })
@@ -126,6 +128,10 @@ record LeftBy (ss : List Statement) (es : ℕ → Option Block) (gates count : �
 stopped_told : (ss : List Statement) (b : Bool) (place n : ℕ) → name_at ss place ≡ n → ending_told ss (if b then end.Counted else end.AtBreak) place ≡ ending_of Halted (record { routine = program_name; statement = n; frames = [] } ∷ [])
 stopped_told ss true place n e = ap (λ m. line (codes "stopped at " ++ decimal m)) e
 stopped_told ss false place n e = ap (λ m. line (codes "stopped at " ++ decimal m)) e
+
+stopped_on : (b : Bool) → ends (if b then end.Counted else end.AtBreak) ≡ false
+stopped_on true = refl
+stopped_on false = refl
 
 failed_told : (ss : List Statement) (error place n : ℕ) (activations : List Activation) → name_at ss place ≡ n → ending_told ss (end.Error error) (place + 1) ≡ ending_of (HasFailed error n) activations
 failed_told ss error place n activations e = ap (λ m. line (codes "error " ++ (decimal error ++ (codes " at " ++ decimal m)))) (ap (name_at ss) (back place) ∙ e)
@@ -161,6 +167,7 @@ module _ (ss : List Statement) (es : ℕ → Option Block) (places : (n : ℕ) �
       let at = at_gate n (store_of t true) c stands in
       record {
         output = stands.holds.console;
+        over = stopped_on (nat_eq count gates);
         same = refl;
         ending = stopped_told ss (nat_eq count gates) c.pc n name ∙ sym (ap (ending_of Halted) acts);
         stands = λ k. record {
@@ -176,6 +183,7 @@ module _ (ss : List Statement) (es : ℕ → Option Block) (places : (n : ℕ) �
   left_in gates count IsEnded t c formed image h =
       record {
         output = h.shows.console;
+        over = refl;
         same = refl;
         ending = refl;
         stands = λ k. record {
@@ -187,6 +195,7 @@ module _ (ss : List Statement) (es : ℕ → Option Block) (places : (n : ℕ) �
   left_in gates count (HasFailed error name) t c formed image h =
       record {
         output = h.shows.console;
+        over = refl;
         same = refl;
         ending = failed_told ss error c.pc name t.activations (name_of name h.block c.pc h.entry h.inside);
         stands = λ k. record {
@@ -210,6 +219,7 @@ after ss is es gates t r places parts long g = subst (After ss t) (sym g.tells) 
     left_after : length c.mem ≡ memory_end → After ss t (told gates g.count (stage_of t) g.cpu)
     left_after long = record {
       output = left.output;
+      over = left.over;
       ending = ap (ending_told ss (run_end gates g.count (stage_of t))) (half c.pc) ∙ left.ending;
       stands = λ k empty. record {
         cpu = record c { console = k };
@@ -228,13 +238,14 @@ after ss is es gates t r places parts long g = subst (After ss t) (sym g.tells) 
 
 pub ran : (ss : List Statement) (gates : ℕ) (s : PascalState) (machine : MachineState) (console : ConsoleState) (before after_all : List ℕ) (r : MachineState × ConsoleState × Went) (k : ConsoleState)
     → IsProgram ss → 1 ≤ gates → r ≡ gone gates machine console → length r.0.memory ≡ memory_end → k.output ≡ []
-    → after_all ≡ (before ++ written_part r.1.output) ++ ending_told ss r.2.end (reg r.0 7 / 2) → CanRunFrom ss s machine console → Ran ss gates s before after_all r.0 k
+    → after_all ≡ (before ++ written_part r.1.output) ++ ending_told ss r.2.end (reg r.0 7 / 2) → CanRunFrom ss s machine console → Ran ss gates s (ends r.2.end) before after_all r.0 k
 ran ss gates s machine console before after_all r k is some same long empty told h =
     let t = run_of (program_of ss) gates s in
     let g = run_gone ss is s gates machine console some h.formed h.can h.stands in
     let a = after ss is h.stands.blocks gates t r h.stands.places h.stands.parts long (subst (Gone ss is h.stands.blocks gates t) (sym same) g) in
     record {
       told = told ∙ ap (λ o. (before ++ written_part o) ++ ending_told ss r.2.end (reg r.0 7 / 2)) a.output ∙ ap (λ e. (before ++ written_part t.output) ++ e) a.ending ∙ append_assoc before (written_part t.output) (ending_of t.status t.activations);
+      over_is = a.over;
       stands = a.stands;
       drained = empty;
       formed = a.formed;

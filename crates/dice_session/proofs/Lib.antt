@@ -3,4 +3,5 @@ pub mod Good
 pub mod Go
 pub mod After
 pub mod Loaded
-mod Examples
+pub mod Texts
+pub mod Sessions

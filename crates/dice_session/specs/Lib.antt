@@ -1,4 +1,8 @@
+pub mod Reading
+pub mod Readings
 pub mod World
 pub mod Represents
 pub mod Simulates
 pub mod Places
+pub mod Lives
+pub mod Texts

@@ -1,5 +1,5 @@
 -- What the debugger tells from places of the machine, and the words that it writes there.
-use Rattle.std.specs.Prelude.{ℕ, ◌+◌, ◌-◌, ◌*◌, nat_lt, if◌then◌else◌, List, [], ◌∷◌, ◌++◌, codes}
+use Rattle.std.specs.Prelude.{ℕ, ◌+◌, ◌-◌, ◌*◌, nat_lt, Bool, true, false, if◌then◌else◌, List, [], ◌∷◌, ◌++◌, codes}
 use Rattle.std.specs.Fmt.{decimal}
 use Rattle.console_service.specs.Cpu.{code_begin}
 use Rattle.pascal_semantics.specs.declared.form.Statement.{Statement}
@@ -26,6 +26,12 @@ ending_told ss AtBreak place = line (codes "stopped at " ++ decimal (name_at ss 
 ending_told ss Ended place = line (codes "ended")
 ending_told ss (Error error) place = line (codes "error " ++ (decimal error ++ (codes " at " ++ decimal (name_at ss (place - 1)))))
 ending_told ss other place = []
+
+-- a run that ends so comes to the end of the program, or to an error
+abbrev pub ends : GoEnd → Bool
+ends Ended = true
+ends (Error error) = true
+ends other = false
 
 -- words are written from this word number on
 unfoldable pub poked : State → ℕ → List ℕ → State

@@ -1,6 +1,6 @@
 -- The simulation relation of a session: the machine's memory holds the present program, and the machine stands for its
 -- state.
-use Rattle.std.specs.Prelude.{◌≡◌, ℕ, false, List, [], ◌∷◌, ◌++◌, length, Option, Some}
+use Rattle.std.specs.Prelude.{◌≡◌, ℕ, Bool, false, List, [], ◌∷◌, ◌++◌, length, Option, Some}
 use Rattle.pdp11_machine.specs.State.{State as MachineState}
 use Rattle.console_service.specs.Console.{ConsoleState}
 use Rattle.console_service.specs.Cpu.{Cpu, state_of, memory_end}
@@ -14,7 +14,7 @@ use Rattle.pascal_semantics.specs.State.{Status, NotStarted, Halted, Activation,
 use Rattle.statement_code.specs.Forms.{simple}
 use Rattle.pascal_semantics.specs.Run.{run_of}
 use Rattle.pascal_semantics.specs.Valid.{program_name}
-use Rattle.dice_session.specs.World.{run_reply}
+use Rattle.dice_session.specs.World.{run_reply, has_ended}
 use Rattle.dice_session.specs.Represents.{Represents}
 
 -- at the gate of one of the program's statements
@@ -59,9 +59,10 @@ pub record CanRunFrom (ss : List Statement) (s : State) (machine : MachineState)
   pub can : CanRun s
   pub stands : Simulates ss s machine console
 
--- the run of so many gates was told, and the machine stands for the state that it left
-pub record Ran (ss : List Statement) (gates : ℕ) (s : State) (before after : List ℕ) (machine : MachineState) (console : ConsoleState) : Type 0 where
+-- the run of so many gates was told, whether the program is over, and the machine stands for the state that it left
+pub record Ran (ss : List Statement) (gates : ℕ) (s : State) (over : Bool) (before after : List ℕ) (machine : MachineState) (console : ConsoleState) : Type 0 where
   pub told : after ≡ before ++ run_reply (run_of (program_of ss) gates s)
+  pub over_is : over ≡ has_ended (run_of (program_of ss) gates s)
   pub stands : StandsFor ss (run_of (program_of ss) gates s) machine
   pub drained : console.output ≡ []
   pub formed : IsWellFormed ss (run_of (program_of ss) gates s)

@@ -1,21 +1,59 @@
 -- The world of a session, and what a command does to it: its reply, and the world after it.
-use Rattle.std.specs.Prelude.{ℕ, ◌+◌, ◌-◌, ◌==◌, if◌then◌else◌, List, [], ◌∷◌, ◌++◌, length, codes, slice_index, Option, Some, None}
+use Rattle.std.specs.Prelude.{◌≡◌, ℕ, ◌+◌, ◌-◌, ◌==◌, nat_lt, Bool, true, false, if◌then◌else◌, List, [], ◌∷◌, ◌++◌, length, codes, bytes_eq, slice_index, Option, Some, None}
 use Rattle.std.specs.Fmt.{decimal}
-use Rattle.pascal_semantics.specs.declared.form.SimpleForm.{SimpleForm}
 use Rattle.pascal_semantics.specs.declared.form.Statement.{Statement}
 use Rattle.pascal_semantics.specs.Charge.{program_charge, charges_of}
 use Rattle.pascal_semantics.specs.Program.{program_of}
 use Rattle.pascal_semantics.specs.State.{Status, NotStarted, Halted, Ended, Failed, Activation, State, loaded_state}
 use Rattle.pascal_semantics.specs.Run.{run_of}
-use Rattle.simple_script.specs.Script.{Command, Load, Run}
+use Rattle.pascal_semantics.specs.Valid.{code_room}
+use Rattle.dice_session.specs.Reading.{Reading, TooLong, NotBuilt, Program, IsReading}
+use Rattle.dice_command.specs.declared.command.CommandFault.{CommandFault}
+use Rattle.dice_command.specs.declared.command.CommandFault.TheVariants.{LineTooLong, NotACommand, BadNumber}
+use Rattle.dice_command.specs.declared.command.LineCommand.{LineCommand}
+use Rattle.dice_command.specs.declared.command.LineCommand.TheVariants.{Blank, Load, Run, Quit, Unbuilt, Bad}
+use Rattle.dice_command.specs.Command.{command_of}
+
+-- what the next line of the script is: a command; a line of a text that is to be loaded, behind these; or nothing,
+-- behind `quit`
+pub data Mode : Type 0 where
+  Commands : Mode
+  Loading : (text : List ℕ) → Mode
+  Over : Mode
 
 -- the present program's statements, if there is one, and its state
 pub record World : Type 0 where
   pub program : Option (List Statement)
   pub state : State
+  pub mode : Mode
 
 abbrev pub empty_world : World
-empty_world = record { program = None; state = loaded_state }
+empty_world = record { program = None; state = loaded_state; mode = Commands }
+
+-- what a line is: a command line; a line of a text; the end of a text, which turns out to be this; or nothing
+pub data Command : Type 0 where
+  Line : LineCommand → Command
+  TextLine : (line : List ℕ) → Command
+  TextEnd : Reading → Command
+  Nothing : Command
+
+-- the end of a text that is to be loaded
+abbrev pub end_line : List ℕ
+end_line = codes "."
+
+abbrev pub EndsText : List ℕ → Command → Type 0
+EndsText text c = (reading : Reading) × IsReading text reading × (c ≡ TextEnd reading)
+
+-- the end line, or one more line of the text
+abbrev pub IsTextCommand : Bool → List ℕ → List ℕ → Command → Type 0
+IsTextCommand true text line c = EndsText text c
+IsTextCommand false text line c = c ≡ TextLine line
+
+-- in this mode, the line is this command
+unfoldable pub Reads : Mode → List ℕ → Command → Type 0
+Reads Commands line c = c ≡ Line (command_of line)
+Reads (Loading text) line c = IsTextCommand (bytes_eq line end_line) text line c
+Reads Over line c = c ≡ Nothing
 
 -- a line of a reply
 abbrev pub line : List ℕ → List ℕ
@@ -53,29 +91,64 @@ ending_of (Failed error name) activations = line (codes "error " ++ (decimal err
 abbrev pub run_reply : State → List ℕ
 run_reply s = written_part s.output ++ ending_of s.status s.activations
 
+-- the program has ended, or is in error
+abbrev pub has_ended_by : Status → Bool
+has_ended_by NotStarted = false
+has_ended_by Halted = false
+has_ended_by Ended = true
+has_ended_by (Failed error name) = true
+
+abbrev pub has_ended : State → Bool
+has_ended s = has_ended_by s.status
+
+abbrev pub refused : World → List ℕ → World × List ℕ
+refused w text = (w, line text)
+
 -- a run of the present program, if there is one
 abbrev pub run_in : Option (List Statement) → ℕ → World → World × List ℕ
-run_in None k w = (w, line (codes "no program"))
-run_in (Some ss) k w = (record w { state = run_of (program_of ss) k w.state }, run_reply (run_of (program_of ss) k w.state))
+run_in None k w = refused w (codes "no program")
+run_in (Some ss) k w =
+    if has_ended w.state then refused w (codes "already ended")
+    else (record w { state = run_of (program_of ss) k w.state }, run_reply (run_of (program_of ss) k w.state))
 
--- the names before the first statement: the program, its variables, and its body
-abbrev pub first_name : ℕ
-first_name = 4
+abbrev pub fault_text : CommandFault → List ℕ
+fault_text LineTooLong = codes "line too long"
+fault_text NotACommand = codes "not a command"
+fault_text BadNumber = codes "bad number"
 
--- the statements of a simple program have the names from this one on, in text order
-abbrev pub named_from : ℕ → List SimpleForm → List Statement
-named_from n [] = []
-named_from n (f ∷ fs) = record { name = n; form = f } ∷ named_from (n + 1) fs
+-- a command line is obeyed
+abbrev pub obeyed : World → LineCommand → World × List ℕ
+obeyed w Blank = (w, [])
+obeyed w Load = (record w { mode = Loading [] }, [])
+obeyed w (Run k) = run_in w.program k w
+obeyed w Quit = (record w { mode = Over }, [])
+obeyed w Unbuilt = refused w (codes "not built")
+obeyed w (Bad fault) = refused w (fault_text fault)
 
-abbrev pub named : List SimpleForm → List Statement
-named fs = named_from first_name fs
+-- a program is loaded whole, where its blocks fit
+abbrev pub loaded : World → List Statement → World × List ℕ
+loaded w ss =
+    if nat_lt code_room (program_charge + charges_of ss) then refused w (codes "code full: " ++ (decimal (program_charge + charges_of ss) ++ codes " words"))
+    else (record w { program = Some ss; state = loaded_state }, loaded_reply ss)
+
+abbrev pub load_of : World → Reading → World × List ℕ
+load_of w TooLong = refused w (codes "text too long")
+load_of w NotBuilt = refused w (codes "not built")
+load_of w (Program ss) = loaded w ss
+
+-- a text has one line more
+abbrev pub longer : Mode → List ℕ → Mode
+longer (Loading text) line = Loading (text ++ (line ++ 10 ∷ []))
+longer other line = other
 
 -- the world after a command, and its reply
-abbrev pub reply_of : World → Command → World × List ℕ
-reply_of w (Load p) = (record { program = Some (named p.statements); state = loaded_state }, loaded_reply (named p.statements))
-reply_of w (Run k) = run_in w.program k w
+unfoldable pub reply_of : World → Command → World × List ℕ
+reply_of w (Line c) = obeyed w c
+reply_of w (TextLine line) = (record w { mode = longer w.mode line }, [])
+reply_of w (TextEnd reading) = load_of (record w { mode = Commands }) reading
+reply_of w Nothing = (w, [])
 
--- the transcript of commands, and the world after them
+-- the replies to commands, and the world after them
 abbrev pub replies_from : World → List Command → List ℕ
 replies_from w [] = []
 replies_from w (c ∷ cs) = (reply_of w c).1 ++ replies_from (reply_of w c).0 cs
@@ -84,5 +157,29 @@ abbrev pub world_after : World → List Command → World
 world_after w [] = w
 world_after w (c ∷ cs) = world_after (reply_of w c).0 cs
 
+-- from this world on, the lines are these commands
+abbrev pub ReadsAll : World → List (List ℕ) → List Command → Type 0
+ReadsAll w [] [] = Unit {0}
+ReadsAll w [] (c ∷ cs) = ⊥
+ReadsAll w (l ∷ ls) [] = ⊥
+ReadsAll w (l ∷ ls) (c ∷ cs) = Reads w.mode l c × ReadsAll (reply_of w c).0 ls cs
+
+-- at the end of the script, a text that is still open is ended
+abbrev pub missing_end : Mode → List (List ℕ)
+missing_end Commands = []
+missing_end (Loading text) = end_line ∷ []
+missing_end Over = []
+
+-- the commands of a whole script of these lines
+pub record AreCommands (lines : List (List ℕ)) (commands : List Command) : Type 0 where
+  pub front : List Command
+  pub last : List Command
+  pub all : commands ≡ front ++ last
+  pub read : ReadsAll empty_world lines front
+  pub ended : ReadsAll (world_after empty_world front) (missing_end (world_after empty_world front).mode) last
+
 abbrev pub transcript_of : List Command → List ℕ
 transcript_of commands = replies_from empty_world commands
+
+abbrev pub last_world : List Command → World
+last_world commands = world_after empty_world commands

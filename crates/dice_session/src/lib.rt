@@ -1,13 +1,12 @@
-//! The debugger's commands over the target: loading a program, and running it.
+//! The session of a script over the target: its lines, the present program, and their replies.
 #![tactic(auto)]
 
 mod loading;
 mod place;
+mod reading;
 mod reply;
 mod running;
-#[cfg(test)]
-mod tests;
+mod session;
+mod text;
 
-pub use loading::load;
-pub use pascal_semantics::code_words;
-pub use running::run;
+pub use session::Session;

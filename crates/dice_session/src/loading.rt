@@ -22,7 +22,7 @@ const MEMORY_END: u16 = 57344;
 
 /// Loads a program: machine and console are made as new, whatever they were used for, and its blocks are written from
 /// byte 512 on, so that the machine is ready to begin it. The reply goes behind `out`.
-pub fn load(
+pub(crate) fn load(
     alloc: Global,
     statements: &[Statement],
     machine: &mut Machine,

@@ -4,7 +4,7 @@ ghost use Rattle.pascal_semantics.specs.State.{State};
 ghost use Rattle.pascal_semantics.specs.Valid.{IsProgram};
 ghost use Rattle.target_monitor.specs.Go.{gone};
 ghost use Rattle.dice_session.specs.World.{written_part};
-ghost use Rattle.dice_session.specs.Places.{ending_told};
+ghost use Rattle.dice_session.specs.Places.{ending_told, ends};
 ghost use Rattle.dice_session.specs.Simulates.{CanRunFrom, Ran};
 
 use crate::reply::{push_ending, push_written};
@@ -13,30 +13,46 @@ use dice_base::{NoMemory, Text};
 use pascal_semantics::Statement;
 use pdp11_machine::Machine;
 use std::alloc::Global;
-use target_monitor::go;
+use target_monitor::{GoEnd, go};
 
 /// How many bytes the console holds.
 const CONSOLE_ROOM: u32 = 65_536;
 
 /// Runs the program over at most so many gates, from a state that it can go on from. The reply, with what was written,
-/// goes behind `out`.
-pub fn run(
+/// goes behind `out`. Tells whether the program has ended or is in error.
+pub(crate) fn run(
     alloc: Global,
     statements: &[Statement],
     gates: u32,
     machine: &mut Machine,
     console: &mut Console,
     out: &mut Text,
-) -> Result<(), NoMemory>
+) -> Result<bool, NoMemory>
     requires program { IsProgram statements.now }
     requires some { 1 ≤ gates }
-    ensures { OnOk result ((s : State) → CanRunFrom statements.now s machine.old console.old → Ran statements.now gates s out.old out.new machine.new console.new) }
+    ensures { IfOk result (λ over. (s : State) → CanRunFrom statements.now s machine.old console.old → Ran statements.now gates s over out.old out.new machine.new console.new) }
 {
     let went = go(machine, console, gates);
     let place = (machine.register(7) / 2) as u32;
     let written = drained(alloc, console)?;
     push_written(alloc, out, &written)?;
-    push_ending(alloc, out, statements, went.end, place)
+    push_ending(alloc, out, statements, went.end, place)?;
+    Ok(ends(went.end))
+}
+
+// Whether a run that ends so comes to the end of the program, or to an error.
+fn ends(end: GoEnd) -> bool
+    ensures { result ≡ ends end }
+{
+    match end {
+        GoEnd::Ended | GoEnd::Error(_) => true,
+        GoEnd::Counted
+        | GoEnd::AtBreak
+        | GoEnd::MustDrain
+        | GoEnd::Overrun
+        | GoEnd::Bus
+        | GoEnd::ConsoleFull => false,
+    }
 }
 
 // All that was written, which the console then no longer holds.

@@ -1,0 +1,114 @@
+-- A run in its middle.
+use Rattle.std.proofs.Common.{◌≡◌, ◌≤◌, ℕ, ◌+◌, ◌-◌, List, [], ◌∷◌, ◌++◌, None, Some, IfSome, length, length-append, map, refl, sym, ap, subst, ◌∙◌, append-nil, arith}
+use Rattle.std.proofs.lemmas.List.{map-append}
+use Rattle.std.specs.declared.option.Option.{Option}
+use Rattle.std.specs.Io.KnownBytes.{Appends, Consumes, IsAtEnd}
+use Rattle.dice_base.specs.Known.{Consumes-nil, Consumes-trans, Appends-nil, Appends-trans}
+use Rattle.dice_base.specs.Lines.{NoFeed, NoFeeds, joined, some_line}
+use Rattle.dice_base.specs.LinesLaws.{joined-push, NoFeeds-push}
+use Rattle.script_lines.specs.Front.{strip}
+use Rattle.script_lines.specs.Took.{WholeLine, LastLine}
+use Rattle.pdp11_machine.specs.State.{State as MachineState}
+use Rattle.dice_session.specs.declared.session.Session.{Session}
+use Rattle.dice_session.specs.World.{World, Over, Command, ReadsAll, Reads, empty_world, reply_of, replies_from, world_after}
+use Rattle.dice_session.specs.Lives.{Lives}
+use Rattle.dice_program.specs.Script.{MAX_BYTES, MAX_LINES, acted_within, acted}
+use Rattle.dice_program.specs.Turns.{Answered, Stepped}
+use Rattle.dice_program.specs.Top.{IsScript}
+use Rattle.dice_program.proofs.Pieces.{acted-joined}
+use Rattle.dice_program.proofs.Commands.{after-push, replies-push, reads-push}
+
+-- so many lines were read, obeyed and answered
+pub record Serving (session : Session) (machine : MachineState) (turns room : ℕ) (left left_now held held_now : Option (List ℕ)) : Type 0 where
+  pub lines : List (List ℕ)
+  pub commands : List Command
+  pub plain : NoFeeds lines
+  pub count : length lines ≡ turns
+  pub space : MAX_BYTES ≡ length (joined lines) + room
+  pub took : Consumes left left_now (joined lines)
+  pub read : ReadsAll empty_world (map strip lines) commands
+  pub wrote : Appends held held_now (replies_from empty_world commands)
+  pub lives : Lives (world_after empty_world commands) session machine
+  pub going : (world_after empty_world commands).mode ≡ Over → ⊥
+
+pub empty-going : empty_world.mode ≡ Over → ⊥
+empty-going e = absurd cc
+
+pub serving-start : (session : Session) (machine : MachineState) (left held : Option (List ℕ)) → Lives empty_world session machine → Serving session machine 0 MAX_BYTES left left held held
+serving-start session machine left held lives = record {
+  lines = [];
+  commands = [];
+  plain = tt;
+  count = refl;
+  space = omega arith;
+  took = Consumes-nil left;
+  read = tt;
+  wrote = Appends-nil held;
+  lives = lives;
+  going = empty-going;
+}
+
+-- lines and commands with one more
+pub record Longer (lines : List (List ℕ)) (commands : List Command) (session : Session) (machine : MachineState) (room : ℕ) (left left_now held held_now : Option (List ℕ)) : Type 0 where
+  pub plain : NoFeeds lines
+  pub space : MAX_BYTES ≡ length (joined lines) + room
+  pub took : Consumes left left_now (joined lines)
+  pub read : ReadsAll empty_world (map strip lines) commands
+
+pub longer-lines : (session : Session) (machine : MachineState) (turns room room_left : ℕ) (left mid now held held_now : Option (List ℕ)) (kept : List ℕ)
+    → (s : Serving session machine turns room left mid held held_now) → (r : WholeLine kept room room_left mid now) → (c : Command)
+    → Reads (world_after empty_world s.commands).mode (strip r.line) c
+    → Longer (s.lines ++ r.line ∷ []) (s.commands ++ c ∷ []) session machine room_left left now held held_now
+longer-lines session machine turns room room_left left mid now held held_now kept s r c reads =
+    let longer : joined (s.lines ++ r.line ∷ []) ≡ joined s.lines ++ (r.line ++ 10 ∷ []) = joined-push s.lines r.line in
+    record {
+      plain = NoFeeds-push s.lines r.line s.plain r.plain;
+      space = omega (arith, ap length longer, length-append (joined s.lines) (r.line ++ 10 ∷ []), length-append r.line (10 ∷ []), s.space, r.space);
+      took = subst (Consumes left now) (sym longer) (Consumes-trans left mid now _ _ s.took r.took);
+      read = subst (λ ls. ReadsAll empty_world ls (s.commands ++ c ∷ [])) (sym (map-append strip s.lines (r.line ∷ []))) (reads-push empty_world (map strip s.lines) (strip r.line) s.commands c s.read reads);
+    }
+
+-- one line more
+pub serving-turn : (session session_now : Session) (machine machine_now : MachineState) (turns room room_left : ℕ) (left mid now held held_mid held_now : Option (List ℕ)) (kept : List ℕ)
+    → (s : Serving session machine turns room left mid held held_mid)
+    → (t : Stepped kept (world_after empty_world s.commands) session_now machine_now room room_left mid now held_mid held_now)
+    → ((reply_of (world_after empty_world s.commands) t.answered.command).0.mode ≡ Over → ⊥)
+    → Serving session_now machine_now (turns + 1) room_left left now held held_now
+serving-turn session session_now machine machine_now turns room room_left left mid now held held_mid held_now kept s t going =
+    let c = t.answered.command in
+    let longer = longer-lines session machine turns room room_left left mid now held held_mid kept s t.read c t.answered.reads in
+    record {
+      lines = s.lines ++ t.read.line ∷ [];
+      commands = s.commands ++ c ∷ [];
+      plain = longer.plain;
+      count = omega (arith, length-append s.lines (t.read.line ∷ []), s.count);
+      space = longer.space;
+      took = longer.took;
+      read = longer.read;
+      wrote = subst (Appends held held_now) (sym (replies-push empty_world s.commands c)) (Appends-trans held held_mid held_now _ _ s.wrote t.answered.wrote);
+      lives = subst (λ w. Lives w session_now machine_now) (sym (after-push empty_world s.commands c)) t.answered.lives;
+      going = λ over. going (ap (λ w. w.mode) (sym (after-push empty_world s.commands c)) ∙ over);
+    }
+
+-- what is acted on of a script whose lines were read so far
+pub so_far : (lines : List (List ℕ)) (rest : List ℕ) (room more : ℕ) → NoFeeds lines → MAX_BYTES ≡ length (joined lines) + room
+    → MAX_LINES - 1 ≡ length lines + more → acted (joined lines ++ rest) ≡ map strip lines ++ acted_within more room rest
+so_far lines rest room more plain space count =
+    ap (λ b. acted_within (MAX_LINES - 1) b (joined lines ++ rest)) space
+    ∙ ap (λ k. acted_within k (length (joined lines) + room) (joined lines ++ rest)) count
+    ∙ acted-joined lines rest more room plain
+
+-- the script, where the source tells its bytes: these bytes, and what is left
+pub record Known (left left_now : Option (List ℕ)) (taken : List ℕ) : Type 0 where
+  pub rest : List ℕ
+  pub is : IsScript left (taken ++ rest)
+
+pub known : (left left_now : Option (List ℕ)) (taken : List ℕ) → Consumes left left_now taken → Known left left_now taken
+known None left_now taken took = record { rest = []; is = tt }
+known (Some whole) None taken took = absurd took
+known (Some whole) (Some rest) taken took = record { rest = rest; is = took }
+
+pub known-end : (left left_now : Option (List ℕ)) (taken : List ℕ) → Consumes left left_now taken → IsAtEnd left_now → IsScript left taken
+known-end None left_now taken took ended = tt
+known-end (Some whole) None taken took ended = absurd took
+known-end (Some whole) (Some rest) taken took ended = took ∙ ap (λ r. taken ++ r) ended ∙ append-nil taken

@@ -1,0 +1,111 @@
+-- From an answer to a turn.
+use Rattle.std.proofs.Common.{◌≡◌, ◌==◌, ◌<◌, ◌≤◌, ◌⊎◌, ℕ, ◌+◌, Bool, true, false, List, [], ◌∷◌, ◌++◌, Ok, Err, Result, length, take, refl, sym, ap, subst, ◌∙◌, append-nil, arith, inl, inr}
+use Rattle.std.proofs.lemmas.Bool.{eqb-true}
+use Rattle.std.proofs.lemmas.List.{take-take, length-take}
+use Rattle.std.specs.declared.option.Option.{Option}
+use Rattle.std.specs.Io.KnownBytes.{Keeps, Appends}
+use Rattle.dice_base.specs.Known.{Appends-nil}
+use Rattle.dice_base.specs.Lines.{some_line}
+use Rattle.dice_base.specs.Part.{WritesPart}
+use Rattle.script_lines.specs.Front.{strip, kept_bytes, longest_text, SameFront}
+use Rattle.script_lines.specs.Took.{WholeLine, LastLine, PastRoom}
+use Rattle.pdp11_machine.specs.State.{State as MachineState}
+use Rattle.dice_session.specs.declared.session.Session.{Session}
+use Rattle.dice_session.specs.World.{World, Mode, Over, reply_of, end_line, missing_end}
+use Rattle.dice_session.specs.Lives.{Lives, Replied, IsOver, ending_if}
+use Rattle.dice_program.specs.declared.serve.Turn.{Turn}
+use Rattle.dice_program.specs.declared.serve.Turn.TheVariants.{On, Quit, Last, TooFar}
+use Rattle.dice_program.specs.declared.serve.Fault.{Fault}
+use Rattle.dice_program.specs.declared.serve.Fault.TheVariants.{ReadFault, WriteFault, NoMemory}
+use Rattle.dice_program.specs.Turns.{Answered, CutShort, Answers, AnsweredAll, AnswersSome, Stepped, AtEnd, CutLine, CutEnd, Unanswered, Turns, IsMore, IsNoMore}
+
+pub answered : (w : World) (l before after written : List ℕ) (s : Session) (m : MachineState) (h k : Option (List ℕ)) → Replied w l before after s m → before ≡ [] → written ≡ after
+    → Appends h k written → Answered w l s m h k
+answered w l before after written s m h k r empty same wrote = record {
+  command = r.command;
+  reads = r.reads;
+  wrote = subst (Appends h k) (same ∙ r.told ∙ ap (λ b. b ++ (reply_of w r.command).1) empty) wrote;
+  lives = r.lives;
+}
+
+pub cut_short : (w : World) (l before after written : List ℕ) (s : Session) (m : MachineState) (h k : Option (List ℕ)) → Replied w l before after s m → before ≡ [] → written ≡ after
+    → WritesPart h k written → CutShort w l s m h k
+cut_short w l before after written s m h k r empty same wrote = record {
+  command = r.command;
+  reads = r.reads;
+  wrote = subst (WritesPart h k) (same ∙ r.told ∙ ap (λ b. b ++ (reply_of w r.command).1) empty) wrote;
+  lives = r.lives;
+}
+
+-- one line is a list of lines
+one-answered : (w : World) (l : List ℕ) (s : Session) (m : MachineState) (h k : Option (List ℕ)) → Answered w l s m h k → AnsweredAll w (l ∷ []) s m h k
+one-answered w l s m h k a = record {
+  commands = a.command ∷ [];
+  reads = (a.reads, tt);
+  wrote = subst (Appends h k) (sym (append-nil (reply_of w a.command).1)) a.wrote;
+  lives = a.lives;
+}
+
+pub none-answered : (w : World) (s : Session) (m : MachineState) (h : Option (List ℕ)) → Lives w s m → AnsweredAll w [] s m h h
+none-answered w s m h lives = record {
+  commands = [];
+  reads = tt;
+  wrote = Appends-nil h;
+  lives = lives;
+}
+
+pub some-answered : (r : Result (Unit {0}) Fault) (w : World) (l : List ℕ) (s : Session) (m : MachineState) (h k : Option (List ℕ)) → Answers r w l s m h k → AnswersSome r w (l ∷ []) s m h k
+some-answered (Ok u) w l s m h k a = one-answered w l s m h k a
+some-answered (Err ReadFault) w l s m h k a = a
+some-answered (Err WriteFault) w l s m h k a = (l, refl, a)
+some-answered (Err NoMemory) w l s m h k a = a
+
+pub is-empty : (xs : List ℕ) → (length xs == 0) ≡ true → xs ≡ []
+is-empty [] e = refl
+is-empty (x ∷ xs) e = absurd (omega (arith, eqb-true (length (x ∷ xs)) 0 e))
+
+pub is-some : (xs : List ℕ) → (length xs == 0) ≡ false → 0 < length xs
+is-some [] e = absurd cc
+is-some (x ∷ xs) e = omega arith
+
+-- a fault is one and the same in results of other values
+abbrev pub failed : (A : Type 0) → Fault → Result A Fault
+failed A x = Err x
+
+pub err-same : (A B : Type 0) (x y : Fault) → failed A x ≡ failed A y → failed B x ≡ failed B y
+err-same A B x y e = let same : x ≡ y = cc in ap (failed B) same
+
+-- a line of which nothing is kept is empty
+pub none-kept : (line l : List ℕ) → line ≡ take kept_bytes l → line ≡ [] → [] ≡ some_line l
+none-kept line [] is empty = refl
+none-kept line (b ∷ bs) is empty = absurd (omega (arith, ap length (sym empty ∙ is), length-take kept_bytes (b ∷ bs)))
+
+pub some-kept : (line l : List ℕ) → line ≡ take kept_bytes l → 0 < length line → l ∷ [] ≡ some_line l
+some-kept line [] is some = absurd (omega (arith, ap length is, length-take {A = ℕ} kept_bytes [], some))
+some-kept line (b ∷ bs) is some = refl
+
+pub last-front : (line l : List ℕ) → line ≡ take kept_bytes l → SameFront l line
+last-front line l is = sym (take-take (longest_text + 1) kept_bytes l (omega arith)) ∙ ap (take (longest_text + 1)) (sym is)
+
+-- a whole line that was not answered whole
+pub turn-cut : (e : Fault) (kept : List ℕ) (w : World) (s : Session) (m : MachineState) (room room_left : ℕ) (left left_then h k : Option (List ℕ)) → (r : WholeLine kept room room_left left left_then)
+    → Answers (Err e) w (strip r.line) s m h k → Turns (Err e) kept w s m room room_left left left_then h k
+turn-cut ReadFault kept w s m room room_left left left_then h k r a = absurd a
+turn-cut WriteFault kept w s m room room_left left left_then h k r a = inl (record { read = r; cut = a })
+turn-cut NoMemory kept w s m room room_left left left_then h k r a = a
+
+-- a last line that was not answered whole
+pub turn-cut-last : (e : Fault) (kept : List ℕ) (w : World) (s : Session) (m : MachineState) (room room_left : ℕ) (left left_then h k : Option (List ℕ)) → (r : LastLine kept room room_left left left_then)
+    → AnswersSome (Err e) w (some_line r.line) s m h k → Turns (Err e) kept w s m room room_left left left_then h k
+turn-cut-last ReadFault kept w s m room room_left left left_then h k r a = absurd a
+turn-cut-last WriteFault kept w s m room room_left left left_then h k r a = inr (record { read = r; last = a.0; is = a.1; cut = a.2 })
+turn-cut-last NoMemory kept w s m room room_left left left_then h k r a = a
+
+pub empty-last : (kept : List ℕ) (room room_left : ℕ) (left left_then : Option (List ℕ)) → LastLine kept room room_left left left_then → kept ≡ [] → IsNoMore kept room room_left left left_then
+empty-last kept room room_left left left_then r empty = (r, go r.line r.front) where
+  go : (l : List ℕ) → kept ≡ take kept_bytes l → l ≡ []
+  go [] is = refl
+  go (b ∷ bs) is = absurd (omega (arith, ap length (sym empty ∙ is), length-take kept_bytes (b ∷ bs)))
+
+pub some-last : (kept : List ℕ) (room room_left : ℕ) (left left_then : Option (List ℕ)) → LastLine kept room room_left left left_then → 0 < length kept → IsMore kept room room_left left left_then
+some-last kept room room_left left left_then r some = inr (inr (r, omega (arith, some, ap length r.front, length-take kept_bytes r.line)))

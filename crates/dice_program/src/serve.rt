@@ -1,0 +1,232 @@
+//! The loop over the lines of a script.
+ghost use Rattle.std.specs.Prelude.{◌≡◌, ◌≤◌, ◌<◌, ℕ, List, [], length, take, IsErrOf};
+ghost use Rattle.dice_base.specs.Causes.{Rose};
+ghost use Rattle.dice_base.specs.Lines.{some_line};
+ghost use Rattle.pdp11_machine.specs.State.{zero_machine};
+ghost use Rattle.script_lines.specs.Front.{kept_bytes, SameFront};
+ghost use Rattle.dice_session.specs.World.{World, missing_end};
+ghost use Rattle.dice_session.specs.Lives.{Lives};
+ghost use Rattle.dice_program.specs.Turns.{Answers, AnswersSome, Turns, Finals};
+ghost use Rattle.dice_program.specs.Top.{Serves};
+ghost use Rattle.dice_program.specs.declared.serve.Fault.TheVariants.{ReadFault, WriteFault, NoMemory as Refused};
+
+use dice_base::{Failed, NoMemory, Sink, Source, Text, write_all};
+use dice_session::Session;
+use pdp11_machine::Machine;
+use script_lines::{Got, LineFault, next_line, stripped};
+use std::alloc::Global;
+
+/// No script may have so many lines.
+const MAX_LINES: u32 = 1_000_000;
+
+/// A script has so many bytes at most.
+const MAX_BYTES: u32 = 67_108_864;
+
+/// The line that ends a text.
+const END_LINE: &[u8] = b".";
+
+/// How a script that could be read and answered ends.
+#[derive(Clone, Copy, Debug, PartialEq, Eq)]
+pub enum Ending {
+    /// It was read to its end, or to `quit`.
+    Done,
+    /// It has too many lines or bytes.
+    TooMany,
+}
+
+/// Why a script was not answered whole.
+#[derive(Clone, Copy, Debug, PartialEq, Eq)]
+pub enum Fault {
+    /// The source failed.
+    ReadFault,
+    /// The sink failed.
+    WriteFault,
+    /// Memory was refused. No contract says when this comes.
+    NoMemory,
+}
+
+impl From<LineFault> for Fault {
+    ghost use Rattle.dice_program.specs.Turns.{fault_of};
+
+    ghost from_gives = { λ line fault. fault ≡ fault_of line };
+
+    fn from(fault: LineFault) -> Self {
+        match fault {
+            LineFault::SourceFailed => Fault::ReadFault,
+            LineFault::NoMemory => Fault::NoMemory,
+        }
+    }
+}
+
+impl From<NoMemory> for Fault {
+    ghost from_gives = { λ _ fault. fault ≡ Refused };
+
+    fn from(_: NoMemory) -> Self {
+        Fault::NoMemory
+    }
+}
+
+// What fails behind the reading is the sink.
+impl From<Failed> for Fault {
+    ghost from_gives = { λ _ fault. fault ≡ WriteFault };
+
+    fn from(_: Failed) -> Self {
+        Fault::WriteFault
+    }
+}
+
+/// What became of a turn of the loop.
+#[derive(Clone, Copy, Debug, PartialEq, Eq)]
+enum Turn {
+    /// A line was answered, and the next one is to be read.
+    On,
+    /// The line was `quit`.
+    Quit,
+    /// The script is at its end.
+    Last,
+    /// The script has more bytes than it may have.
+    TooFar,
+}
+
+// Acts on a line, of which no more than a front is kept, and writes the reply.
+fn answer_line<K: Sink>(
+    alloc: Global,
+    session: &mut Session,
+    line: &[u8],
+    machine: &mut Machine,
+    sink: &mut K,
+) -> Result<(), Fault>
+    ensures answers { (w : World) (l : List ℕ) → Lives w session.old machine.old → SameFront l line.now
+        → Answers result w l session.new machine.new (K.held sink.old) (K.held sink.new) }
+    ensures later { K.faults sink.old ≤ K.faults sink.new }
+    ensures cause { IsErrOf result Fault.WriteFault → Rose (K.faults sink.old) (K.faults sink.new) }
+    ensures not_read { IsErrOf result Fault.ReadFault → ⊥ }
+{
+    let mut reply = Text::new(alloc);
+    session.line(alloc, line, machine, &mut reply)?;
+    write_all(sink, reply.bytes())?;
+    Ok(())
+}
+
+// Acts on a last line, where there is one.
+fn answer_last<K: Sink>(
+    alloc: Global,
+    session: &mut Session,
+    line: &[u8],
+    machine: &mut Machine,
+    sink: &mut K,
+) -> Result<(), Fault>
+    ensures answers { (w : World) (l : List ℕ) → Lives w session.old machine.old → line.now ≡ take kept_bytes l
+        → AnswersSome result w (some_line l) session.new machine.new (K.held sink.old) (K.held sink.new) }
+    ensures later { K.faults sink.old ≤ K.faults sink.new }
+    ensures cause { IsErrOf result Fault.WriteFault → Rose (K.faults sink.old) (K.faults sink.new) }
+    ensures not_read { IsErrOf result Fault.ReadFault → ⊥ }
+{
+    if line.is_empty() {
+        return Ok(());
+    }
+    answer_line(alloc, session, line, machine, sink)
+}
+
+// At the end of the script, ends a text that is still open.
+fn answer_end<K: Sink>(
+    alloc: Global,
+    session: &mut Session,
+    machine: &mut Machine,
+    sink: &mut K,
+) -> Result<(), Fault>
+    ensures answers { (w : World) → Lives w session.old machine.old
+        → AnswersSome result w (missing_end w.mode) session.new machine.new (K.held sink.old) (K.held sink.new) }
+    ensures later { K.faults sink.old ≤ K.faults sink.new }
+    ensures cause { IsErrOf result Fault.WriteFault → Rose (K.faults sink.old) (K.faults sink.new) }
+    ensures not_read { IsErrOf result Fault.ReadFault → ⊥ }
+{
+    if !session.is_loading() {
+        return Ok(());
+    }
+    answer_line(alloc, session, END_LINE, machine, sink)
+}
+
+// Reads a line, acts on it and writes the reply.
+fn take_turn<S: Source, K: Sink>(
+    alloc: Global,
+    session: &mut Session,
+    line: &mut Vec<u8>,
+    room: &mut u32,
+    source: &mut S,
+    sink: &mut K,
+    machine: &mut Machine,
+) -> Result<Turn, Fault>
+    ensures turns { (w : World) → Lives w session.old machine.old
+        → Turns result line.new.items w session.new machine.new room.old room.new (S.left source.old) (S.left source.new) (K.held sink.old) (K.held sink.new) }
+    ensures source { S.faults source.old ≤ S.faults source.new }
+    ensures sink { K.faults sink.old ≤ K.faults sink.new }
+    ensures read { IsErrOf result Fault.ReadFault → Rose (S.faults source.old) (S.faults source.new) }
+    ensures write { IsErrOf result Fault.WriteFault → Rose (K.faults sink.old) (K.faults sink.new) }
+{
+    match next_line(source, line, room)? {
+        Got::Whole => {
+            answer_line(alloc, session, stripped(line), machine, sink)?;
+            Ok(if session.is_over() { Turn::Quit } else { Turn::On })
+        }
+        Got::Last => {
+            answer_last(alloc, session, line, machine, sink)?;
+            Ok(Turn::Last)
+        }
+        Got::TooFar => Ok(Turn::TooFar),
+    }
+}
+
+// Reads on where no further line is acted on.
+fn final_turn<S: Source>(
+    line: &mut Vec<u8>,
+    room: &mut u32,
+    source: &mut S,
+) -> Result<Ending, LineFault>
+    ensures finals { Finals result line.new.items room.old room.new (S.left source.old) (S.left source.new) }
+    ensures later { S.faults source.old ≤ S.faults source.new }
+    ensures cause { IsErrOf result LineFault.SourceFailed → Rose (S.faults source.old) (S.faults source.new) }
+{
+    match next_line(source, line, room)? {
+        Got::Last => Ok(if line.as_slice().is_empty() { Ending::Done } else { Ending::TooMany }),
+        Got::Whole => Ok(Ending::TooMany),
+        Got::TooFar => Ok(Ending::TooMany),
+    }
+}
+
+/// Answers the lines of a script, each before the next is read, on a machine that was not used.
+pub(crate) fn serve_script<S: Source, K: Sink>(
+    alloc: Global,
+    source: &mut S,
+    sink: &mut K,
+    machine: &mut Machine,
+) -> Result<Ending, Fault>
+    requires unused { machine.old ≡ zero_machine }
+    ensures serves { Serves result (S.left source.old) (S.left source.new) (K.held sink.old) (K.held sink.new) machine.new }
+    ensures source { S.faults source.old ≤ S.faults source.new }
+    ensures sink { K.faults sink.old ≤ K.faults sink.new }
+    ensures read { IsErrOf result Fault.ReadFault → Rose (S.faults source.old) (S.faults source.new) }
+    ensures write { IsErrOf result Fault.WriteFault → Rose (K.faults sink.old) (K.faults sink.new) }
+{
+    let mut session = Session::new(alloc)?;
+    let mut line = Vec::new(alloc);
+    let mut room = MAX_BYTES;
+    for _turn in 1..MAX_LINES {
+        match take_turn(alloc, &mut session, &mut line, &mut room, source, sink, machine)? {
+            Turn::On => {}
+            Turn::Quit => return Ok(Ending::Done),
+            Turn::Last => {
+                answer_end(alloc, &mut session, machine, sink)?;
+                return Ok(Ending::Done);
+            }
+            Turn::TooFar => return Ok(Ending::TooMany),
+        }
+    }
+    match final_turn(&mut line, &mut room, source)? {
+        Ending::Done => {
+            answer_end(alloc, &mut session, machine, sink)?;
+            Ok(Ending::Done)
+        }
+        Ending::TooMany => Ok(Ending::TooMany),
+    }
+}

@@ -1,0 +1,63 @@
+-- Texts of which a front is kept.
+use Rattle.std.proofs.Common.{◌≡◌, ◌<◌, ◌≤◌, ◌⊎◌, ℕ, ◌+◌, ◌-◌, List, [], ◌∷◌, ◌++◌, length, length-append, take, refl, sym, ap, ◌∙◌, append_assoc, arith, inl, inr, take_all}
+use Rattle.std.specs.Prelude.{min}
+use Rattle.std.proofs.lemmas.Bool.{cases_lt}
+use Rattle.std.proofs.lemmas.List.{take-take, length-take, take_min, take-append-le}
+use Rattle.std.proofs.Math.Seq.{take-append-add}
+use Rattle.script_lines.specs.Front.{longest_text, SameFront}
+use Rattle.dice_session.specs.Lives.{kept_text}
+use Rattle.dice_session.specs.Reading.{Reading, TooLong, NotBuilt, Program, IsReading}
+
+pub front-added : (text bytes : List ℕ) (len count : ℕ) → len ≡ length text → count ≡ min (length bytes) (kept_text - len) → length text ≤ kept_text
+    → text ++ take count bytes ≡ take kept_text (text ++ bytes)
+front-added text bytes len count is fits short =
+    let room = kept_text - length text in
+    let least : count ≡ min room (length bytes) = omega (arith, is, fits) in
+    let all : length text + room ≡ kept_text = omega (arith, short) in
+    ap (λ n. text ++ take n bytes) least ∙ ap (λ xs. text ++ xs) (take_min room bytes) ∙ sym (take-append-add text bytes room)
+    ∙ ap (λ n. take n (text ++ bytes)) all
+
+-- a front of a front and more is the front of the whole and more
+pub cut-append : (n : ℕ) (xs ys : List ℕ) → take n (take n xs ++ ys) ≡ take n (xs ++ ys)
+cut-append n xs ys = elim (cases_lt n (length xs)) [
+  | inr short ↦ ap (λ zs. take n (zs ++ ys)) (take_all n xs short)
+  | inl long ↦ take-append-le n (take n xs) ys (omega (arith, length-take n xs, long)) ∙ take-take n n xs (omega arith) ∙ sym (take-append-le n xs ys (omega (arith, long)))
+]
+
+-- what is added counts only as far as there is room
+append-cut : (n : ℕ) (xs ys zs : List ℕ) → take n ys ≡ take n zs → take n (xs ++ ys) ≡ take n (xs ++ zs)
+append-cut n xs ys zs same = elim (cases_lt n (length xs)) [
+  | inl long ↦ take-append-le n xs ys (omega (arith, long)) ∙ sym (take-append-le n xs zs (omega (arith, long)))
+  | inr short ↦
+      let m = n - length xs in
+      let e : n ≡ length xs + m = omega (arith, short) in
+      let less : take m ys ≡ take m zs = sym (take-take m n ys (omega arith)) ∙ ap (take m) same ∙ take-take m n zs (omega arith) in
+      ap (λ k. take k (xs ++ ys)) e ∙ take-append-add xs ys m ∙ ap (λ t. xs ++ t) less ∙ sym (take-append-add xs zs m) ∙ ap (λ k. take k (xs ++ zs)) (sym e)
+]
+
+-- a line more of a text, of both of which a front is kept
+pub longer-kept : (kept text line l : List ℕ) → kept ≡ take kept_text text → SameFront l line
+    → take kept_text (take kept_text (kept ++ line) ++ 10 ∷ []) ≡ take kept_text (text ++ (l ++ 10 ∷ []))
+longer-kept kept text line l is same =
+    cut-append kept_text (kept ++ line) (10 ∷ []) ∙ ap (λ t. take kept_text ((t ++ line) ++ 10 ∷ [])) is ∙ ap (take kept_text) (append_assoc (take kept_text text) line (10 ∷ []))
+    ∙ cut-append kept_text text (line ++ 10 ∷ [])
+    ∙ append-cut kept_text text (line ++ 10 ∷ []) (l ++ 10 ∷ []) (sym (cut-append kept_text line (10 ∷ [])) ∙ ap (λ t. take kept_text (t ++ 10 ∷ [])) (sym same) ∙ cut-append kept_text l (10 ∷ []))
+
+-- lines that begin alike are the same, or both are longer than a text may be
+pub same-line : (l line : List ℕ) → SameFront l line → (l ≡ line) ⊎ ((longest_text < length l) × (longest_text < length line))
+same-line l line same = elim (cases_lt longest_text (length line)) [
+  | inr short ↦
+      let e : take kept_text l ≡ line = same ∙ take_all kept_text line (omega (arith, short)) in
+      let less : length l ≤ kept_text = omega (arith, ap length e, length-take kept_text l, short) in
+      inl (sym (take_all kept_text l less) ∙ e)
+  | inl long ↦ inr (omega (arith, ap length same, length-take kept_text l, length-take kept_text line, long), long)
+]
+
+same-text : (text kept : List ℕ) → kept ≡ take kept_text text → length kept ≤ longest_text → text ≡ kept
+same-text text kept is short = sym (is ∙ take_all kept_text text (omega (arith, ap length is, length-take kept_text text, short)))
+
+-- what a text is hangs on its front alone
+pub same-reading : (text kept : List ℕ) (r : Reading) → kept ≡ take kept_text text → IsReading kept r → IsReading text r
+same-reading text kept TooLong is h = omega (arith, ap length is, length-take kept_text text, h)
+same-reading text kept NotBuilt is h = let e = same-text text kept is h.0 in rw e h
+same-reading text kept (Program ss) is h = let e = same-text text kept is h.0 in rw e h

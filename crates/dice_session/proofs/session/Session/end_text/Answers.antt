@@ -1,0 +1,26 @@
+use Rattle.std.proofs.Common.{refl}
+use Rattle.dice_session.specs.Reading.{TooLong, NotBuilt, Program}
+use Rattle.dice_session.proofs.Texts.{same-reading}
+use Rattle.dice_session.proofs.Sessions.{on_ok}
+use Rattle.dice_session.proofs.session.Session.end_text.Goals as goal
+
+pub returns-in-TooLong : goal.returns-in-TooLong
+returns-in-TooLong c = on_ok c.refuse.result c.refuse.ensures (λ told w t lives mode is. record {
+  reading = TooLong;
+  is = same-reading t c.args.text.now TooLong is (rw c.in-TooLong.is at c.in_ok-read_program.ensures.reading);
+  became = record { told = told; lives = lives };
+})
+
+pub returns-in-NotBuilt : goal.returns-in-NotBuilt
+returns-in-NotBuilt c = on_ok c.refuse-in-NotBuilt.result c.refuse-in-NotBuilt.ensures (λ told w t lives mode is. record {
+  reading = NotBuilt;
+  is = same-reading t c.args.text.now NotBuilt is (rw c.in-NotBuilt.is at c.in_ok-read_program.ensures.reading);
+  became = record { told = told; lives = lives };
+})
+
+pub returns-in-Program : goal.returns-in-Program
+returns-in-Program c = on_ok c.load.result c.load.ensures (λ f w t lives mode is. record {
+  reading = Program c.in-Program.statements.items;
+  is = same-reading t c.args.text.now (Program c.in-Program.statements.items) is (rw c.in-Program.is at c.in_ok-read_program.ensures.reading);
+  became = f w lives mode;
+})

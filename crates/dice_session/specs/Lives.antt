@@ -1,0 +1,70 @@
+-- When a session and its machine are those of a world.
+use Rattle.std.specs.Prelude.{◌≡◌, ℕ, ◌+◌, Bool, true, false, List, [], ◌∷◌, ◌++◌, take, Option, Some, None}
+use Rattle.std.specs.Option.{option_map}
+use Rattle.std.specs.List.{AllByRecursion}
+use Rattle.script_lines.specs.Front.{longest_text}
+use Rattle.pdp11_machine.specs.State.{State as MachineState, zero_machine}
+use Rattle.pascal_semantics.specs.State.{State}
+use Rattle.pascal_semantics.specs.declared.form.Statement.{Statement}
+use Rattle.pascal_semantics.specs.Valid.{IsProgram}
+use Rattle.dice_session.specs.World.{World, Mode, Commands, Loading, Over, Command, Reads, reply_of, end_line, missing_end, has_ended, obeyed}
+use Rattle.dice_session.specs.Simulates.{StandsFor, IsWellFormed}
+use Rattle.dice_session.specs.declared.session.Session.{Session}
+
+-- the machine stands for the state of the present program; before any load it is as it was made
+abbrev pub StandsBy : Option (List Statement) → State → MachineState → Type 0
+StandsBy None s machine = machine ≡ zero_machine
+StandsBy (Some ss) s machine = StandsFor ss s machine
+
+abbrev pub Stands : World → MachineState → Type 0
+Stands w machine = StandsBy w.program w.state machine
+
+-- of a text that is to be loaded, no more than this is kept
+abbrev pub kept_text : ℕ
+kept_text = longest_text + 1
+
+-- what the next line is
+abbrev pub HasMode : Mode → Session → Type 0
+HasMode Commands session = (session.over ≡ false) × (session.text ≡ None)
+HasMode (Loading text) session = (session.over ≡ false) × (option_map (λ t. t.items) session.text ≡ Some (take kept_text text))
+HasMode Over session = (session.over ≡ true) × (session.text ≡ None)
+
+-- a program that was loaded, and its state
+pub record HasStatements (ss : List Statement) (s : State) (session : Session) : Type 0 where
+  pub statements : option_map (λ v. v.items) session.program ≡ Some ss
+  pub program : IsProgram ss
+  pub formed : IsWellFormed ss s
+  pub ended : session.ended ≡ has_ended s
+
+abbrev pub HasProgram : Option (List Statement) → State → Session → Type 0
+HasProgram None s session = session.program ≡ None
+HasProgram (Some ss) s session = HasStatements ss s session
+
+-- the session and the machine are those of the world
+pub record Lives (w : World) (session : Session) (machine : MachineState) : Type 0 where
+  pub mode : HasMode w.mode session
+  pub program : HasProgram w.program w.state session
+  pub drained : session.console.output ≡ []
+  pub stands : Stands w machine
+
+-- `quit` was read
+abbrev pub IsOver : Bool → Mode → Type 0
+IsOver true mode = mode ≡ Over
+IsOver false mode = ¬ (mode ≡ Over)
+
+-- the line that a text still wants
+abbrev pub ending_if : Bool → List (List ℕ)
+ending_if true = end_line ∷ []
+ending_if false = []
+
+-- the world became this one, and the reply was added
+pub record Became (next : World × List ℕ) (before after : List ℕ) (session : Session) (machine : MachineState) : Type 0 where
+  pub told : after ≡ before ++ next.1
+  pub lives : Lives next.0 session machine
+
+-- the line was read as a command, and the command was obeyed
+pub record Replied (w : World) (line : List ℕ) (before after : List ℕ) (session : Session) (machine : MachineState) : Type 0 where
+  pub command : Command
+  pub reads : Reads w.mode line command
+  pub told : after ≡ before ++ (reply_of w command).1
+  pub lives : Lives (reply_of w command).0 session machine

@@ -1,0 +1,226 @@
+//! The session: what each line of a script does, and the reply to it.
+ghost use Rattle.std.specs.Prelude.{◌≡◌, ◌≤◌, ◌++◌, ℕ, List, [], ◌∷◌, length, take, true, false, None, IfOk, OnOk, bytes_eq};
+ghost use Rattle.pdp11_machine.specs.State.{State as MachineState, zero_machine};
+ghost use Rattle.script_lines.specs.Front.{SameFront};
+ghost use Rattle.pascal_semantics.specs.State.{State};
+ghost use Rattle.pascal_semantics.specs.Valid.{IsProgram};
+ghost use Rattle.dice_session.specs.Simulates.{CanRunFrom, Ran};
+ghost use Rattle.dice_session.specs.Reading.{IsReading, Program};
+ghost use Rattle.dice_session.specs.Readings.{AreNamed};
+ghost use Rattle.dice_command.specs.Command.{IsWellRead};
+ghost use Rattle.dice_session.specs.World.{World, Commands, Loading, empty_world, missing_end, obeyed, loaded, run_in, line, end_line, fault_text, has_ended};
+ghost use Rattle.dice_session.specs.Lives.{Lives, Replied, Became, IsOver, ending_if, kept_text};
+ghost use Rattle.dice_session.specs.Texts.{ReadsText};
+
+use crate::loading::load;
+use crate::reading::{Found, read_program};
+use crate::running::run;
+use crate::text::longer;
+use console_service::Console;
+use dice_base::{NoMemory, Text, push_decimal};
+use dice_command::{CommandFault, LineCommand, parse_command};
+use pascal_semantics::{Statement, code_words};
+use pdp11_machine::Machine;
+use std::alloc::Global;
+
+/// The words of the code area.
+const CODE_ROOM: u32 = 10_240;
+
+/// A session: the present program and what the next line of the script is. The program's state is that of the machine
+/// and the console.
+#[derive(Drop)]
+pub struct Session {
+    console: Console,
+    program: Option<Vec<Statement>>,
+    // The program has ended or is in error.
+    ended: bool,
+    // The front of a text that is to be loaded, while lines of it are read.
+    text: Option<Vec<u8>>,
+    // `quit` was read.
+    over: bool,
+}
+
+impl Session {
+    /// A session before its first line. There is no program, and the machine was not used.
+    pub fn new(alloc: Global) -> Result<Session, NoMemory>
+        ensures { IfOk result (λ session. Lives empty_world session zero_machine) }
+    {
+        Ok(Session {
+            console: Console::new(alloc)?,
+            program: None,
+            ended: false,
+            text: None,
+            over: false,
+        })
+    }
+
+    /// Whether `quit` was read.
+    pub fn is_over(&self) -> bool
+        ensures { (w : World) (machine : MachineState) → Lives w self.now machine → IsOver result w.mode }
+    {
+        self.over
+    }
+
+    /// Whether a text that is to be loaded still wants its end line.
+    pub fn is_loading(&self) -> bool
+        ensures { (w : World) (machine : MachineState) → Lives w self.now machine → missing_end w.mode ≡ ending_if result }
+    {
+        self.text.is_some()
+    }
+
+    /// Acts on a line, of which no more need be kept than `SameFront` says, and adds the reply behind `out`. Where
+    /// memory is refused, the session is not to be used again.
+    pub fn line(
+        &mut self,
+        alloc: Global,
+        line: &[u8],
+        machine: &mut Machine,
+        out: &mut Text,
+    ) -> Result<(), NoMemory>
+        // The session and the machine are those of some world.
+        requires { (w : World) × Lives w self.old machine.old }
+        ensures { OnOk result ((w : World) (l : List ℕ) → Lives w self.old machine.old → SameFront l line.now → Replied w l out.old out.new self.new machine.new) }
+    {
+        if self.over {
+            return Ok(());
+        }
+        match self.text.take() {
+            None => self.obey(alloc, parse_command(line), machine, out),
+            Some(text) => self.read_on(alloc, text, line, machine, out),
+        }
+    }
+
+    // A line of a text that is to be loaded.
+    fn read_on(
+        &mut self,
+        alloc: Global,
+        text: Vec<u8>,
+        line: &[u8],
+        machine: &mut Machine,
+        out: &mut Text,
+    ) -> Result<(), NoMemory>
+        requires short { length text.items ≤ kept_text }
+        requires closed { self.old.text ≡ None }
+        ensures { OnOk result ((w : World) (t l : List ℕ) → Lives (record w { mode = Commands }) self.old machine.old → w.mode ≡ Loading t → text.items ≡ take kept_text t → SameFront l line.now
+            → Replied w l out.old out.new self.new machine.new) }
+    {
+        if is_end(line) {
+            return self.end_text(alloc, &text, machine, out);
+        }
+        let text = longer(text, line)?;
+        self.text = Some(text);
+        Ok(())
+    }
+
+    fn obey(
+        &mut self,
+        alloc: Global,
+        command: LineCommand,
+        machine: &mut Machine,
+        out: &mut Text,
+    ) -> Result<(), NoMemory>
+        requires well_read { IsWellRead command }
+        requires lives { (w : World) × Lives w self.old machine.old }
+        ensures { OnOk result ((w : World) → Lives w self.old machine.old → w.mode ≡ Commands → Became (obeyed w command) out.old out.new self.new machine.new) }
+    {
+        match command {
+            LineCommand::Blank => Ok(()),
+            LineCommand::Load => {
+                self.text = Some(Vec::new(alloc));
+                Ok(())
+            }
+            LineCommand::Run(gates) => self.run(alloc, gates, machine, out),
+            LineCommand::Quit => {
+                self.over = true;
+                Ok(())
+            }
+            LineCommand::Unbuilt => refuse(alloc, out, b"not built"),
+            LineCommand::Bad(fault) => refuse(alloc, out, fault_text(fault)),
+        }
+    }
+
+    fn run(
+        &mut self,
+        alloc: Global,
+        gates: u32,
+        machine: &mut Machine,
+        out: &mut Text,
+    ) -> Result<(), NoMemory>
+        requires some { 1 ≤ gates }
+        requires lives { (w : World) × Lives w self.old machine.old }
+        ensures { OnOk result ((w : World) → Lives w self.old machine.old → w.mode ≡ Commands → Became (run_in w.program gates w) out.old out.new self.new machine.new) }
+    {
+        let Some(statements) = &self.program else {
+            return refuse(alloc, out, b"no program");
+        };
+        if self.ended {
+            return refuse(alloc, out, b"already ended");
+        }
+        self.ended = run(alloc, statements, gates, machine, &mut self.console, out)?;
+        Ok(())
+    }
+
+    // The text of a program has ended.
+    fn end_text(
+        &mut self,
+        alloc: Global,
+        text: &[u8],
+        machine: &mut Machine,
+        out: &mut Text,
+    ) -> Result<(), NoMemory>
+        ensures { OnOk result ((w : World) (t : List ℕ) → Lives w self.old machine.old → w.mode ≡ Commands → text.now ≡ take kept_text t → ReadsText w t out.old out.new self.new machine.new) }
+    {
+        match read_program(alloc, text)? {
+            Found::TooLong => refuse(alloc, out, b"text too long"),
+            Found::NotBuilt => refuse(alloc, out, b"not built"),
+            Found::Program(statements) => self.load(alloc, statements, machine, out),
+        }
+    }
+
+    fn load(
+        &mut self,
+        alloc: Global,
+        statements: Vec<Statement>,
+        machine: &mut Machine,
+        out: &mut Text,
+    ) -> Result<(), NoMemory>
+        requires { AreNamed statements.items }
+        ensures { OnOk result ((w : World) → Lives w self.old machine.old → w.mode ≡ Commands → Became (loaded w statements.items) out.old out.new self.new machine.new) }
+    {
+        let words = code_words(&statements);
+        if words > CODE_ROOM {
+            out.append(alloc, b"code full: ")?;
+            push_decimal(alloc, out, words as u64)?;
+            return out.append(alloc, b" words\n");
+        }
+        load(alloc, &statements, machine, &mut self.console, out)?;
+        self.program = Some(statements);
+        self.ended = false;
+        Ok(())
+    }
+}
+
+// Whether the line ends a text.
+fn is_end(line: &[u8]) -> bool
+    ensures { result ≡ bytes_eq line.now end_line }
+{
+    line == b".".as_slice()
+}
+
+// A reply of one line.
+fn refuse(alloc: Global, out: &mut Text, text: &[u8]) -> Result<(), NoMemory>
+    ensures { OnOk result (out.new ≡ out.old ++ line text.now) }
+{
+    out.append(alloc, text)?;
+    out.push(alloc, b'\n')
+}
+
+fn fault_text(fault: CommandFault) -> &'static [u8]
+    ensures { result.now ≡ fault_text fault }
+{
+    match fault {
+        CommandFault::LineTooLong => b"line too long",
+        CommandFault::NotACommand => b"not a command",
+        CommandFault::BadNumber => b"bad number",
+    }
+}
