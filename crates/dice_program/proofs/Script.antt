@@ -2,10 +2,10 @@
 use Rattle.std.proofs.Common.{◌≡◌, ℕ, ◌⊎◌, inl, inr, Option, Some, None, List, ◌++◌, length, Result, Ok, Err, refl, sym, ap, ◌∙◌, subst, arith, append-nil}
 use Rattle.std.specs.Io.KnownBytes.{Appends}
 use Rattle.pdp11_machine.specs.State.{State as MachineState}
-use Rattle.pascal_semantics.specs.declared.form.SimpleForm.{SimpleForm}
+use Rattle.pascal_semantics.specs.declared.form.Statement.{Statement}
 use Rattle.simple_script.specs.Program.{Plain}
 use Rattle.simple_script.specs.Script.{IsSimpleScript}
-use Rattle.dice_session.specs.World.{loaded_reply, run_reply, transcript_of}
+use Rattle.dice_session.specs.World.{named, loaded_reply, run_reply, transcript_of}
 use Rattle.dice_program.specs.declared.top.Stop.{Stop}
 use Rattle.dice_program.specs.declared.top.Stop.TheVariants.{ReadFault, WriteFault, NoMemory}
 use Rattle.dice_program.specs.Read.{IsFront}
@@ -15,16 +15,16 @@ use Rattle.dice_program.proofs.Fronts.{whole-taken, short-taken}
 
 -- ---- the answer to a script
 
-told : (p : Plain) → told_of p.statements ≡ transcript_of (commands_of p)
-told p = sym (ap (λ l. loaded_reply p.statements ++ l) (append-nil (run_reply (ran_of p.statements))))
+told : (p : Plain) → told_of (named p.statements) ≡ transcript_of (commands_of p)
+told p = sym (ap (λ l. loaded_reply (named p.statements) ++ l) (append-nil (run_reply (ran_of (named p.statements)))))
 
-pub answered_run : (script : List ℕ) (p : Plain) (fs : List SimpleForm) (r : Result (Unit {0}) Stop) (held then : Option (List ℕ)) (before now : ℕ) (old new : MachineState) → fs ≡ p.statements → IsSimpleScript script p → Served fs r held then before now new → Answered script r held then before now old new
+pub answered_run : (script : List ℕ) (p : Plain) (fs : List Statement) (r : Result (Unit {0}) Stop) (held then : Option (List ℕ)) (before now : ℕ) (old new : MachineState) → fs ≡ named p.statements → IsSimpleScript script p → Served fs r held then before now new → Answered script r held then before now old new
 answered_run script p fs r held then before now old new same simple h = by r (subst (λ fs. Served fs r held then before now new) same h)
   where
-    by : (r : Result (Unit {0}) Stop) → Served p.statements r held then before now new → Answered script r held then before now old new
+    by : (r : Result (Unit {0}) Stop) → Served (named p.statements) r held then before now new → Answered script r held then before now old new
     by (Ok u) (wrote, stands) = inl (record { program = p; simple = simple; wrote = subst (Appends held then) (told p) wrote; stands = stands })
-    by (Err WriteFault) (wrote, rose) = (told_of p.statements, inl (p, simple, told p), wrote, rose)
-    by (Err NoMemory) wrote = inr (told_of p.statements, inl (p, simple, told p), wrote)
+    by (Err WriteFault) (wrote, rose) = (told_of (named p.statements), inl (p, simple, told p), wrote, rose)
+    by (Err NoMemory) wrote = inr (told_of (named p.statements), inl (p, simple, told p), wrote)
     by (Err ReadFault) wrong = absurd wrong
 
 -- ---- a run of the program

@@ -7,7 +7,7 @@ use Rattle.std.specs.Io.KnownBytes.{Appends}
 use Rattle.dice_base.specs.Causes.{Rose}
 use Rattle.dice_base.specs.Part.{WritesPart}
 use Rattle.pdp11_machine.specs.State.{State as MachineState}
-use Rattle.pascal_semantics.specs.declared.form.SimpleForm.{SimpleForm}
+use Rattle.pascal_semantics.specs.declared.form.Statement.{Statement}
 use Rattle.dice_session.specs.World.{loaded_reply, run_reply}
 use Rattle.dice_program.specs.declared.top.Stop.{Stop}
 use Rattle.dice_program.specs.declared.top.Stop.TheVariants.{ReadFault, WriteFault, NoMemory}
@@ -37,7 +37,7 @@ later_rose before mid now le rose = omega (arith, le, rose)
 
 -- ---- statements that are loaded and run
 
-module _ (fs : List SimpleForm) (old mid new : Option (List ℕ)) (before now : ℕ) (machine : MachineState) where
+module _ (fs : List Statement) (old mid new : Option (List ℕ)) (before now : ℕ) (machine : MachineState) where
   pub cut : (r : Result (Unit {0}) Stop) → IsErrAnd r (λ s. s ≡ WriteFault) → WritesPart old new (told_of fs) → Rose before now → Served fs r old new before now machine
   cut (Ok u) e wrote rose = absurd e
   cut (Err ReadFault) e wrote rose = absurd (grind (arith, e))

@@ -5,7 +5,7 @@ use Rattle.std.specs.Io.KnownBytes.{Appends}
 use Rattle.dice_base.specs.Causes.{Rose}
 use Rattle.dice_base.specs.Part.{WritesPart}
 use Rattle.pdp11_machine.specs.State.{State as MachineState}
-use Rattle.pascal_semantics.specs.declared.form.SimpleForm.{SimpleForm}
+use Rattle.pascal_semantics.specs.declared.form.Statement.{Statement}
 use Rattle.pascal_semantics.specs.Program.{program_of}
 use Rattle.pascal_semantics.specs.State.{State, loaded_state}
 use Rattle.pascal_semantics.specs.Run.{run_of}
@@ -22,18 +22,18 @@ abbrev pub stop_of : ReadEnd → Stop
 stop_of read.ReadFault = ReadFault
 stop_of read.NoMemory = NoMemory
 
-abbrev pub ran_of : List SimpleForm → State
-ran_of forms = run_of (program_of forms) 1000000 loaded_state
+abbrev pub ran_of : List Statement → State
+ran_of statements = run_of (program_of statements) 1000000 loaded_state
 
-abbrev pub told_of : List SimpleForm → List ℕ
-told_of forms = loaded_reply forms ++ run_reply (ran_of forms)
+abbrev pub told_of : List Statement → List ℕ
+told_of statements = loaded_reply statements ++ run_reply (ran_of statements)
 
 -- statements were loaded and run
-abbrev pub Served : List SimpleForm → Result (Unit {0}) Stop → Option (List ℕ) → Option (List ℕ) → ℕ → ℕ → MachineState → Type 0
-Served forms (Ok u) held then before now machine = Appends held then (told_of forms) × StandsFor forms (ran_of forms) machine
-Served forms (Err WriteFault) held then before now machine = WritesPart held then (told_of forms) × Rose before now
-Served forms (Err NoMemory) held then before now machine = WritesFront held then (told_of forms)
-Served forms (Err ReadFault) held then before now machine = ⊥
+abbrev pub Served : List Statement → Result (Unit {0}) Stop → Option (List ℕ) → Option (List ℕ) → ℕ → ℕ → MachineState → Type 0
+Served statements (Ok u) held then before now machine = Appends held then (told_of statements) × StandsFor statements (ran_of statements) machine
+Served statements (Err WriteFault) held then before now machine = WritesPart held then (told_of statements) × Rose before now
+Served statements (Err NoMemory) held then before now machine = WritesFront held then (told_of statements)
+Served statements (Err ReadFault) held then before now machine = ⊥
 
 -- a script was answered
 abbrev pub Answered : List ℕ → Result (Unit {0}) Stop → Option (List ℕ) → Option (List ℕ) → ℕ → ℕ → MachineState → MachineState → Type 0

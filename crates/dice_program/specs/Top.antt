@@ -7,7 +7,7 @@ use Rattle.dice_base.specs.Part.{WritesPart}
 use Rattle.pdp11_machine.specs.State.{State as MachineState}
 use Rattle.simple_script.specs.Program.{Plain}
 use Rattle.simple_script.specs.Script.{Command, Load, Run, IsSimpleScript}
-use Rattle.dice_session.specs.World.{line, World, empty_world, world_after, transcript_of}
+use Rattle.dice_session.specs.World.{line, named, World, empty_world, world_after, transcript_of}
 use Rattle.dice_session.specs.Simulates.{StandsFor}
 use Rattle.dice_program.specs.declared.status.Status.{Status}
 use Rattle.dice_program.specs.declared.status.Status.TheVariants.{Done, Usage, ReadFault, WriteFault, NoMemory}
@@ -60,7 +60,7 @@ pub record IsRun (script : List ℕ) (held held_then : Option (List ℕ)) (then 
   pub program : Plain
   pub simple : IsSimpleScript script program
   pub wrote : Appends held held_then (transcript_of (commands_of program))
-  pub stands : StandsFor program.statements (last_world program).state then
+  pub stands : StandsFor (named program.statements) (last_world program).state then
 
 -- every other script is refused, and the machine is as it was
 pub record IsRefused (script : List ℕ) (held held_then : Option (List ℕ)) (now then : MachineState) : Type 0 where

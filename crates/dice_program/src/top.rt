@@ -1,17 +1,18 @@
 //! A whole run: from a script to its transcript.
 ghost use Rattle.std.specs.Prelude.{◌≡◌, ◌≤◌};
 ghost use Rattle.pdp11_machine.specs.State.{zero_machine};
-ghost use Rattle.dice_session.specs.Simulates.{IsProgram};
+ghost use Rattle.pascal_semantics.specs.Valid.{IsProgram};
 ghost use Rattle.dice_program.specs.Top.{Ended};
 ghost use Rattle.dice_program.specs.Serve.{Served, Answered, WasRun};
 ghost use Rattle.dice_program.specs.declared.top.Stop.TheVariants.{ReadFault, WriteFault, NoMemory as Refused};
 
+use crate::naming::name_statements;
 use crate::read::{ReadEnd, read_bytes};
 use crate::status::Status;
 use console_service::Console;
 use dice_base::{Failed, NoMemory, Sink, Source, Text, write_all};
 use dice_session::{load, run};
-use pascal_semantics::SimpleForm;
+use pascal_semantics::Statement;
 use pdp11_machine::Machine;
 use simple_script::read_script;
 use std::alloc::Global;
@@ -117,7 +118,10 @@ fn answer<K: Sink>(
     ensures later { K.faults sink.old ≤ K.faults sink.new }
 {
     match read_script(alloc, script)? {
-        Some(program) => serve(alloc, &program.statements, sink, machine),
+        Some(program) => {
+            let statements = name_statements(alloc, &program.statements)?;
+            serve(alloc, &statements, sink, machine)
+        }
         None => {
             write_all(sink, NOT_BUILT)?;
             Ok(())
@@ -128,21 +132,20 @@ fn answer<K: Sink>(
 // Loads a program and runs it, and writes the reply to each before the next.
 fn serve<K: Sink>(
     alloc: Global,
-    forms: &[SimpleForm],
+    statements: &[Statement],
     sink: &mut K,
     machine: &mut Machine,
 ) -> Result<(), Stop>
-    requires program { IsProgram forms.now }
-    requires unused { machine.old ≡ zero_machine }
-    ensures served { Served forms.now result (K.held sink.old) (K.held sink.new) (K.faults sink.old) (K.faults sink.new) machine.new }
+    requires { IsProgram statements.now }
+    ensures served { Served statements.now result (K.held sink.old) (K.held sink.new) (K.faults sink.old) (K.faults sink.new) machine.new }
     ensures later { K.faults sink.old ≤ K.faults sink.new }
 {
     let mut console = Console::new(alloc)?;
     let mut loaded = Text::new(alloc);
-    load(alloc, forms, machine, &mut loaded)?;
+    load(alloc, statements, machine, &mut console, &mut loaded)?;
     write_all(sink, loaded.bytes())?;
     let mut ran = Text::new(alloc);
-    run(alloc, forms, GATES, machine, &mut console, &mut ran)?;
+    run(alloc, statements, GATES, machine, &mut console, &mut ran)?;
     write_all(sink, ran.bytes())?;
     Ok(())
 }

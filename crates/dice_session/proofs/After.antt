@@ -16,20 +16,21 @@ use Rattle.code_image.specs.Block.{Gate, Block}
 use Rattle.code_image.specs.Semantics.{At}
 use Rattle.code_image.specs.Plain.{Program, Goes}
 use Rattle.code_image.specs.Image.{IsBlock, HasImage, InWords, Before, Represents as BlocksRepresent}
-use Rattle.pascal_semantics.specs.declared.form.SimpleForm.{SimpleForm}
+use Rattle.pascal_semantics.specs.declared.form.Statement.{Statement}
 use Rattle.pascal_semantics.specs.Charge.{charge_of, program_charge}
-use Rattle.pascal_semantics.specs.Program.{program_of, first_name}
+use Rattle.pascal_semantics.specs.Program.{program_of}
+use Rattle.pascal_semantics.specs.Valid.{IsProgram, program_name}
 use Rattle.pascal_semantics.specs.State.{Status, NotStarted, Halted, Ended as IsEnded, Failed as HasFailed, Activation, State as PascalState}
 use Rattle.pascal_semantics.specs.Run.{run_of}
 use Rattle.statement_code.specs.Gives.{HasGlobals}
 use Rattle.statement_code.specs.Forms.{BlockForm, Store, HasFrame, simple}
-use Rattle.image_plan.specs.Links.{blocks_of, program_name}
+use Rattle.image_plan.specs.Links.{blocks_of}
 use Rattle.image_plan.specs.Load.{place_from, place_of, placed, HasParts}
 use Rattle.image_plan.proofs.Laid.{is_same}
 use Rattle.dice_session.specs.World.{line, newest_name, ending_of, written_part}
 use Rattle.dice_session.specs.Places.{name_from, name_at, ending_told}
 use Rattle.dice_session.specs.Represents.{AtGate, AtNewest, StandsAt, FramesStand}
-use Rattle.dice_session.specs.Simulates.{IsProgram, IsWellFormed, IsWellFormedBy, Simulates, CanRunFrom, Ran}
+use Rattle.dice_session.specs.Simulates.{IsWellFormed, IsWellFormedBy, Simulates, CanRunFrom, Ran}
 use Rattle.dice_session.proofs.Stages.{store_of, stage_by, stage_of, unmarked, HasRunBy}
 use Rattle.dice_session.proofs.Go.{Gone, run_gone}
 
@@ -52,52 +53,52 @@ or_second (Some p) = p.1
 pub parts_of : (a b c d : ℕ) → ◌≡◌ {A = Option (ℕ × ℕ)} (Some (a, b)) (Some (c, d)) → (a ≡ c) × (b ≡ d)
 parts_of a b c d e = (ap (λ o. or_first o) e, ap (λ o. or_second o) e)
 
-record Named (n p : ℕ) (fs : List SimpleForm) (m q at : ℕ) : Type 0 where
-  is : name_from n p fs at ≡ m
+record Named (p : ℕ) (ss : List Statement) (m q at : ℕ) : Type 0 where
+  is : name_from p ss at ≡ m
   behind : p ≤ q
 
-named_from : (n p : ℕ) (fs : List SimpleForm) (m q len at : ℕ) → place_from n p fs m ≡ Some (q, len) → q ≤ at → at < q + len → Named n p fs m q at
+named_from : (p : ℕ) (ss : List Statement) (m q len at : ℕ) → place_from p ss m ≡ Some (q, len) → q ≤ at → at < q + len → Named p ss m q at
 unfolding name_from
-named_from n p [] m q len at e lo hi = absurd (grind (arith, e))
-named_from n p (f ∷ fs) m q len at e lo hi = by (m == n) refl e (λ h. named_from (n + 1) (p + charge_of f) fs m q len at h lo hi)
+named_from p [] m q len at e lo hi = absurd (grind (arith, e))
+named_from p (s ∷ ss) m q len at e lo hi = by (s.name == m) refl e (λ h. named_from (p + charge_of s.form) ss m q len at h lo hi)
   where
-    by : (b : Bool) → (m == n) ≡ b → (if b then Some (p, charge_of f) else place_from (n + 1) (p + charge_of f) fs m) ≡ Some (q, len)
-        → (place_from (n + 1) (p + charge_of f) fs m ≡ Some (q, len) → Named (n + 1) (p + charge_of f) fs m q at) → Named n p (f ∷ fs) m q at
+    by : (b : Bool) → (s.name == m) ≡ b → (if b then Some (p, charge_of s.form) else place_from (p + charge_of s.form) ss m) ≡ Some (q, len)
+        → (place_from (p + charge_of s.form) ss m ≡ Some (q, len) → Named (p + charge_of s.form) ss m q at) → Named p (s ∷ ss) m q at
     by true t h rest =
-        let (first, long) = parts_of p (charge_of f) q len h in
-        record { is = ap (λ b. if b then n else name_from (n + 1) (p + charge_of f) fs at) (below at (p + charge_of f) (omega (arith, first, long, hi))) ∙ sym (is_same m n t); behind = omega (arith, first) }
+        let (first, long) = parts_of p (charge_of s.form) q len h in
+        record { is = ap (λ b. if b then s.name else name_from (p + charge_of s.form) ss at) (below at (p + charge_of s.form) (omega (arith, first, long, hi))) ∙ is_same s.name m t; behind = omega (arith, first) }
     by false t h rest =
         let r = rest h in
-        record { is = ap (λ b. if b then n else name_from (n + 1) (p + charge_of f) fs at) (not_below at (p + charge_of f) (omega (arith, r.behind, lo))) ∙ r.is; behind = omega (arith, r.behind) }
+        record { is = ap (λ b. if b then s.name else name_from (p + charge_of s.form) ss at) (not_below at (p + charge_of s.form) (omega (arith, r.behind, lo))) ∙ r.is; behind = omega (arith, r.behind) }
 
-named_at : (fs : List SimpleForm) (m q len at : ℕ) → place_of fs m ≡ Some (q, len) → q ≤ at → at < q + len → name_at fs at ≡ m
-named_at fs m q len at e lo hi = by (m == program_name) refl e
+named_at : (ss : List Statement) (m q len at : ℕ) → place_of ss m ≡ Some (q, len) → q ≤ at → at < q + len → name_at ss at ≡ m
+named_at ss m q len at e lo hi = by (m == program_name) refl e
   where
-    by : (b : Bool) → (m == program_name) ≡ b → (if b then Some (code_begin, program_charge) else place_from first_name (code_begin + program_charge) fs m) ≡ Some (q, len) → name_at fs at ≡ m
+    by : (b : Bool) → (m == program_name) ≡ b → (if b then Some (code_begin, program_charge) else place_from (code_begin + program_charge) ss m) ≡ Some (q, len) → name_at ss at ≡ m
     by true t h =
         let (first, long) = parts_of code_begin program_charge q len h in
-        ap (λ b. if b then program_name else name_from first_name (code_begin + program_charge) fs at) (below at (code_begin + program_charge) (omega (arith, first, long, hi))) ∙ sym (is_same m program_name t)
+        ap (λ b. if b then program_name else name_from (code_begin + program_charge) ss at) (below at (code_begin + program_charge) (omega (arith, first, long, hi))) ∙ sym (is_same m program_name t)
     by false t h =
-        let r = named_from first_name (code_begin + program_charge) fs m q len at h lo hi in
-        ap (λ b. if b then program_name else name_from first_name (code_begin + program_charge) fs at) (not_below at (code_begin + program_charge) (omega (arith, r.behind, lo))) ∙ r.is
+        let r = named_from (code_begin + program_charge) ss m q len at h lo hi in
+        ap (λ b. if b then program_name else name_from (code_begin + program_charge) ss at) (not_below at (code_begin + program_charge) (omega (arith, r.behind, lo))) ∙ r.is
 
 -- a word of a block tells the block's name
-name_in : (fs : List SimpleForm) (blocks : ℕ → Option Block) (n : ℕ) (b : Block) (at : ℕ) → ((n : ℕ) → placed (blocks n) ≡ place_of fs n) → blocks n ≡ Some b → InWords b.place b at → name_at fs at ≡ n
-name_in fs blocks n b at places e (lo, hi) = named_at fs n b.place (length b.words) at (sym (places n) ∙ ap placed e) lo hi
+name_in : (ss : List Statement) (blocks : ℕ → Option Block) (n : ℕ) (b : Block) (at : ℕ) → ((n : ℕ) → placed (blocks n) ≡ place_of ss n) → blocks n ≡ Some b → InWords b.place b at → name_at ss at ≡ n
+name_in ss blocks n b at places e (lo, hi) = named_at ss n b.place (length b.words) at (sym (places n) ∙ ap placed e) lo hi
 
 -- ---- what a run leaves
 
-pub record After (fs : List SimpleForm) (t : PascalState) (r : MachineState × ConsoleState × Went) : Type 0 where
+pub record After (ss : List Statement) (t : PascalState) (r : MachineState × ConsoleState × Went) : Type 0 where
   pub output : r.1.output ≡ t.output
-  pub ending : ending_told fs r.2.end (reg r.0 7 / 2) ≡ ending_of t.status t.activations
-  pub stands : (k : ConsoleState) → k.output ≡ [] → Simulates fs t r.0 k
-  pub formed : IsWellFormed fs t
+  pub ending : ending_told ss r.2.end (reg r.0 7 / 2) ≡ ending_of t.status t.activations
+  pub stands : (k : ConsoleState) → k.output ≡ [] → Simulates ss t r.0 k
+  pub formed : IsWellFormed ss t
 
-formed_by : (fs : List SimpleForm) (x : Status) (activations : List Activation) → HasRunBy fs x activations → IsWellFormedBy fs x activations
-formed_by fs NotStarted activations h = absurd h
-formed_by fs Halted activations h = h
-formed_by fs IsEnded activations h = tt
-formed_by fs (HasFailed error name) activations h = tt
+formed_by : (ss : List Statement) (x : Status) (activations : List Activation) → HasRunBy ss x activations → IsWellFormedBy ss x activations
+formed_by ss NotStarted activations h = absurd h
+formed_by ss Halted activations h = h
+formed_by ss IsEnded activations h = tt
+formed_by ss (HasFailed error name) activations h = tt
 
 half : (k : ℕ) → 2 * k / 2 ≡ k
 half k = omega (arith)
@@ -116,28 +117,28 @@ record Stands (es : ℕ → Option Block) (x : Status) (t : PascalState) (c : Cp
   frames : FramesStand x c
 
 -- a machine that was left, in parts
-record LeftBy (fs : List SimpleForm) (es : ℕ → Option Block) (gates count : ℕ) (x : Status) (t : PascalState) (c : Cpu) : Type 0 where
+record LeftBy (ss : List Statement) (es : ℕ → Option Block) (gates count : ℕ) (x : Status) (t : PascalState) (c : Cpu) : Type 0 where
   output : (left_at (stage_by x t) c).console.output ≡ t.output
   same : (left_at (stage_by x t) c).mem ≡ c.mem
-  ending : ending_told fs (run_end gates count (stage_by x t)) (left_at (stage_by x t) c).pc ≡ ending_of x t.activations
+  ending : ending_told ss (run_end gates count (stage_by x t)) (left_at (stage_by x t) c).pc ≡ ending_of x t.activations
   stands : (k : ConsoleState) → Stands es x t (record (left_at (stage_by x t) c) { console = k })
 
-stopped_told : (fs : List SimpleForm) (b : Bool) (place n : ℕ) → name_at fs place ≡ n → ending_told fs (if b then end.Counted else end.AtBreak) place ≡ ending_of Halted (record { routine = program_name; statement = n; frames = [] } ∷ [])
-stopped_told fs true place n e = ap (λ m. line (codes "stopped at " ++ decimal m)) e
-stopped_told fs false place n e = ap (λ m. line (codes "stopped at " ++ decimal m)) e
+stopped_told : (ss : List Statement) (b : Bool) (place n : ℕ) → name_at ss place ≡ n → ending_told ss (if b then end.Counted else end.AtBreak) place ≡ ending_of Halted (record { routine = program_name; statement = n; frames = [] } ∷ [])
+stopped_told ss true place n e = ap (λ m. line (codes "stopped at " ++ decimal m)) e
+stopped_told ss false place n e = ap (λ m. line (codes "stopped at " ++ decimal m)) e
 
-failed_told : (fs : List SimpleForm) (error place n : ℕ) (activations : List Activation) → name_at fs place ≡ n → ending_told fs (end.Error error) (place + 1) ≡ ending_of (HasFailed error n) activations
-failed_told fs error place n activations e = ap (λ m. line (codes "error " ++ (decimal error ++ (codes " at " ++ decimal m)))) (ap (name_at fs) (back place) ∙ e)
+failed_told : (ss : List Statement) (error place n : ℕ) (activations : List Activation) → name_at ss place ≡ n → ending_told ss (end.Error error) (place + 1) ≡ ending_of (HasFailed error n) activations
+failed_told ss error place n activations e = ap (λ m. line (codes "error " ++ (decimal error ++ (codes " at " ++ decimal m)))) (ap (name_at ss) (back place) ∙ e)
   where
     back : (place : ℕ) → place + 1 - 1 ≡ place
     back place = omega (arith)
 
-module _ (fs : List SimpleForm) (es : ℕ → Option Block) (places : (n : ℕ) → placed (es n) ≡ place_of fs n) (parts : HasParts es) where
+module _ (ss : List Statement) (es : ℕ → Option Block) (places : (n : ℕ) → placed (es n) ≡ place_of ss n) (parts : HasParts es) where
   abbrev B : Program BlockForm
-  B = blocks_of (program_of fs)
+  B = blocks_of (program_of ss)
 
-  name_of : (n : ℕ) (b : Block) (at : ℕ) → es n ≡ Some b → InWords b.place b at → name_at fs at ≡ n
-  name_of n b at e inside = name_in fs es n b at places e inside
+  name_of : (n : ℕ) (b : Block) (at : ℕ) → es n ≡ Some b → InWords b.place b at → name_at ss at ≡ n
+  name_of n b at e inside = name_in ss es n b at places e inside
 
   -- at a gate
   at_gate : (n : ℕ) (d : Store) (c : Cpu) → Before simple B es (record { name = n; start = At Gate; data_now = d; older = [] }) c → AtGate (es n) c
@@ -153,7 +154,7 @@ module _ (fs : List SimpleForm) (es : ℕ → Option Block) (places : (n : ℕ) 
       let some : stands.offset < length stands.block.words = (subst IsBlock same lies.is).gate_in stands.offset stands.start in
       (omega (arith, stands.place), omega (arith, stands.place, some))
 
-  left_halted : (gates count n : ℕ) (t : PascalState) (c : Cpu) → t.activations ≡ record { routine = program_name; statement = n; frames = [] } ∷ [] → HasImage simple B es unmarked c.mem → BlocksRepresent simple B es (stage_by Halted t) c → LeftBy fs es gates count Halted t c
+  left_halted : (gates count n : ℕ) (t : PascalState) (c : Cpu) → t.activations ≡ record { routine = program_name; statement = n; frames = [] } ∷ [] → HasImage simple B es unmarked c.mem → BlocksRepresent simple B es (stage_by Halted t) c → LeftBy ss es gates count Halted t c
   left_halted gates count n t c acts image h =
       let stands : Before simple B es (record { name = n; start = At Gate; data_now = store_of t true; older = [] }) c = subst (λ a. BlocksRepresent simple B es (Goes (record { name = newest_name a; start = At Gate; data_now = store_of t true; older = [] })) c) acts h in
       let name = name_of n stands.block c.pc stands.entry (gate_inside n (store_of t true) c image stands) in
@@ -161,7 +162,7 @@ module _ (fs : List SimpleForm) (es : ℕ → Option Block) (places : (n : ℕ) 
       record {
         output = stands.holds.console;
         same = refl;
-        ending = stopped_told fs (nat_eq count gates) c.pc n name ∙ sym (ap (ending_of Halted) acts);
+        ending = stopped_told ss (nat_eq count gates) c.pc n name ∙ sym (ap (ending_of Halted) acts);
         stands = λ k. record {
           control = subst (λ a. AtNewest es a (record c { console = k })) (sym acts) (refl, record { lies = at.lies; is = at.is; gate = at.gate; place = at.place });
           variables = globals_on t.globals c c.pc k stands.holds.globals_are;
@@ -169,7 +170,7 @@ module _ (fs : List SimpleForm) (es : ℕ → Option Block) (places : (n : ℕ) 
         };
       }
 
-  left_in : (gates count : ℕ) (x : Status) (t : PascalState) (c : Cpu) → HasRunBy fs x t.activations → HasImage simple B es unmarked c.mem → BlocksRepresent simple B es (stage_by x t) c → LeftBy fs es gates count x t c
+  left_in : (gates count : ℕ) (x : Status) (t : PascalState) (c : Cpu) → HasRunBy ss x t.activations → HasImage simple B es unmarked c.mem → BlocksRepresent simple B es (stage_by x t) c → LeftBy ss es gates count x t c
   left_in gates count NotStarted t c formed image h = absurd formed
   left_in gates count Halted t c (n, row, found, acts) image h = left_halted gates count n t c acts image h
   left_in gates count IsEnded t c formed image h =
@@ -187,7 +188,7 @@ module _ (fs : List SimpleForm) (es : ℕ → Option Block) (places : (n : ℕ) 
       record {
         output = h.shows.console;
         same = refl;
-        ending = failed_told fs error c.pc name t.activations (name_of name h.block c.pc h.entry h.inside);
+        ending = failed_told ss error c.pc name t.activations (name_of name h.block c.pc h.entry h.inside);
         stands = λ k. record {
           control = record { lies = h.block; is = h.entry; at = c.pc; inside = h.inside; place = refl; executed = h.halts.here };
           variables = globals_on t.globals c (c.pc + 1) k h.shows.globals_are;
@@ -197,19 +198,19 @@ module _ (fs : List SimpleForm) (es : ℕ → Option Block) (places : (n : ℕ) 
 
 -- ---- the whole
 
-pub after : (fs : List SimpleForm) (is : IsProgram fs) (es : ℕ → Option Block) (gates : ℕ) (t : PascalState) (r : MachineState × ConsoleState × Went) → ((n : ℕ) → placed (es n) ≡ place_of fs n) → HasParts es → length r.0.memory ≡ memory_end → Gone fs is es gates t r → After fs t r
-after fs is es gates t r places parts long g = subst (After fs t) (sym g.tells) (left_after (subst (λ r. length r.0.memory ≡ memory_end) g.tells long))
+pub after : (ss : List Statement) (is : IsProgram ss) (es : ℕ → Option Block) (gates : ℕ) (t : PascalState) (r : MachineState × ConsoleState × Went) → ((n : ℕ) → placed (es n) ≡ place_of ss n) → HasParts es → length r.0.memory ≡ memory_end → Gone ss is es gates t r → After ss t r
+after ss is es gates t r places parts long g = subst (After ss t) (sym g.tells) (left_after (subst (λ r. length r.0.memory ≡ memory_end) g.tells long))
   where
-    left : LeftBy fs es gates g.count t.status t g.cpu
-    left = left_in fs es places parts gates g.count t.status t g.cpu g.formed g.image g.stands
+    left : LeftBy ss es gates g.count t.status t g.cpu
+    left = left_in ss es places parts gates g.count t.status t g.cpu g.formed g.image g.stands
 
     c : Cpu
     c = left_at (stage_of t) g.cpu
 
-    left_after : length c.mem ≡ memory_end → After fs t (told gates g.count (stage_of t) g.cpu)
+    left_after : length c.mem ≡ memory_end → After ss t (told gates g.count (stage_of t) g.cpu)
     left_after long = record {
       output = left.output;
-      ending = ap (ending_told fs (run_end gates g.count (stage_of t))) (half c.pc) ∙ left.ending;
+      ending = ap (ending_told ss (run_end gates g.count (stage_of t))) (half c.pc) ∙ left.ending;
       stands = λ k empty. record {
         cpu = record c { console = k };
         is = refl;
@@ -217,23 +218,23 @@ after fs is es gates t r places parts long g = subst (After fs t) (sym g.tells) 
         blocks = es;
         places = places;
         parts = parts;
-        image = subst (HasImage simple (blocks_of (program_of fs)) es unmarked) (sym left.same) g.image;
+        image = subst (HasImage simple (blocks_of (program_of ss)) es unmarked) (sym left.same) g.image;
         represents = let s = left.stands k in record { control = s.control; variables = s.variables; frames = s.frames; console = empty };
       };
-      formed = formed_by fs t.status t.activations g.formed;
+      formed = formed_by ss t.status t.activations g.formed;
     }
 
 -- ---- what is said of a run
 
-pub ran : (fs : List SimpleForm) (gates : ℕ) (s : PascalState) (machine : MachineState) (console : ConsoleState) (before after_all : List ℕ) (r : MachineState × ConsoleState × Went) (k : ConsoleState)
-    → IsProgram fs → 1 ≤ gates → r ≡ gone gates machine console → length r.0.memory ≡ memory_end → k.output ≡ []
-    → after_all ≡ (before ++ written_part r.1.output) ++ ending_told fs r.2.end (reg r.0 7 / 2) → CanRunFrom fs s machine console → Ran fs gates s before after_all r.0 k
-ran fs gates s machine console before after_all r k is some same long empty told h =
-    let t = run_of (program_of fs) gates s in
-    let g = run_gone fs is s gates machine console some h.formed h.can h.stands in
-    let a = after fs is h.stands.blocks gates t r h.stands.places h.stands.parts long (subst (Gone fs is h.stands.blocks gates t) (sym same) g) in
+pub ran : (ss : List Statement) (gates : ℕ) (s : PascalState) (machine : MachineState) (console : ConsoleState) (before after_all : List ℕ) (r : MachineState × ConsoleState × Went) (k : ConsoleState)
+    → IsProgram ss → 1 ≤ gates → r ≡ gone gates machine console → length r.0.memory ≡ memory_end → k.output ≡ []
+    → after_all ≡ (before ++ written_part r.1.output) ++ ending_told ss r.2.end (reg r.0 7 / 2) → CanRunFrom ss s machine console → Ran ss gates s before after_all r.0 k
+ran ss gates s machine console before after_all r k is some same long empty told h =
+    let t = run_of (program_of ss) gates s in
+    let g = run_gone ss is s gates machine console some h.formed h.can h.stands in
+    let a = after ss is h.stands.blocks gates t r h.stands.places h.stands.parts long (subst (Gone ss is h.stands.blocks gates t) (sym same) g) in
     record {
-      told = told ∙ ap (λ o. (before ++ written_part o) ++ ending_told fs r.2.end (reg r.0 7 / 2)) a.output ∙ ap (λ e. (before ++ written_part t.output) ++ e) a.ending ∙ append_assoc before (written_part t.output) (ending_of t.status t.activations);
+      told = told ∙ ap (λ o. (before ++ written_part o) ++ ending_told ss r.2.end (reg r.0 7 / 2)) a.output ∙ ap (λ e. (before ++ written_part t.output) ++ e) a.ending ∙ append_assoc before (written_part t.output) (ending_of t.status t.activations);
       stands = a.stands;
       drained = empty;
       formed = a.formed;

@@ -1,13 +1,16 @@
 -- Transcripts of worked scripts.
-use Rattle.std.proofs.Common.{◌≡◌, List, [], ◌∷◌, ◌++◌, Some, None, refl}
+use Rattle.std.proofs.Common.{◌≡◌, ℕ, List, [], ◌∷◌, ◌++◌, Some, None, refl}
 use Rattle.std.specs.Prelude.{codes}
 use Rattle.std.specs.Fmt.{digits}
 use Rattle.pascal_semantics.specs.declared.form.Operand.TheVariants.{Global, Number}
-use Rattle.pascal_semantics.specs.declared.form.SimpleForm.TheVariants.{Assign, WriteLine}
-use Rattle.pascal_semantics.specs.Run.{settled, driven}
+use Rattle.pascal_semantics.specs.declared.form.SimpleForm.TheVariants.{Assign, WriteLine, Empty}
+use Rattle.pascal_semantics.specs.declared.form.Statement.{Statement}
+use Rattle.pascal_semantics.specs.Program.{program_of}
+use Rattle.pascal_semantics.specs.State.{loaded_state}
+use Rattle.pascal_semantics.specs.Run.{settled, driven, run_of}
 use Rattle.simple_script.specs.Program.{Plain}
 use Rattle.simple_script.specs.Script.{Load, Run}
-use Rattle.dice_session.specs.World.{line, transcript_of}
+use Rattle.dice_session.specs.World.{line, loaded_reply, run_reply, transcript_of}
 
 -- program m; var i, s: integer; begin i := 2; s := i + 40; writeln(s:1) end.
 abbrev answer : Plain
@@ -37,3 +40,35 @@ too_large_told = refl
 answer_twice : transcript_of (Load answer ∷ Run 1 ∷ Run 1 ∷ Run 5 ∷ []) ≡ line (codes "loaded 4 blocks 188 words") ++ line (codes "stopped at 5") ++ line (codes "stopped at 6") ++ line (codes "output 3") ++ line (codes "42") ++ line (codes "ended")
 unfolding settled driven digits
 answer_twice = refl
+
+-- a program with an empty statement, `begin ; writeln(7) end`, whose statements are 4 and 9
+abbrev with_empty : List Statement
+with_empty = record { name = 4; form = Empty } ∷ record { name = 9; form = WriteLine (record { first = Number 7; second = None }) None } ∷ []
+
+abbrev told_of : List Statement → ℕ → List ℕ
+told_of ss gates = run_reply (run_of (program_of ss) gates loaded_state)
+
+with_empty_loaded : loaded_reply with_empty ≡ line (codes "loaded 3 blocks 84 words")
+unfolding digits
+with_empty_loaded = refl
+
+with_empty_stops : told_of with_empty 1 ≡ line (codes "stopped at 9")
+unfolding settled driven digits
+with_empty_stops = refl
+
+with_empty_ends : told_of with_empty 2 ≡ line (codes "output 9") ++ line (codes "       7") ++ line (codes "ended")
+unfolding settled driven digits
+with_empty_ends = refl
+
+-- a program with no statement ends at once, `begin end` with its one empty statement at its first gate
+none_loaded : loaded_reply [] ≡ line (codes "loaded 1 blocks 32 words")
+unfolding digits
+none_loaded = refl
+
+none_ends : told_of [] 1 ≡ line (codes "ended")
+unfolding settled driven digits
+none_ends = refl
+
+empty_ends : told_of (record { name = 4; form = Empty } ∷ []) 1 ≡ line (codes "ended")
+unfolding settled driven digits
+empty_ends = refl

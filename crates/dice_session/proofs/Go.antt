@@ -1,5 +1,6 @@
 -- A run on the machine is the run of the plain machine.
 use Rattle.std.proofs.Common.{◌≡◌, ℕ, ◌+◌, ◌<◌, ◌≤◌, Bool, true, false, List, [], ◌∷◌, Option, Some, refl, sym, ap, ◌∙◌, subst, arith}
+use Rattle.std.specs.Prelude.{◌==◌, if◌then◌else◌, find}
 use Rattle.pdp11_machine.specs.State.{State as MachineState}
 use Rattle.console_service.specs.Console.{ConsoleState}
 use Rattle.console_service.specs.Run.{gate_here}
@@ -12,17 +13,19 @@ use Rattle.code_image.specs.Block.{First, Gate, Block}
 use Rattle.code_image.specs.Semantics.{At, Hanging}
 use Rattle.code_image.specs.Plain.{Program, Now, State, Goes, IsLive, is_gate, stretch, drive, cost, spent}
 use Rattle.code_image.specs.Image.{HasImage, Represents as BlocksRepresent}
-use Rattle.pascal_semantics.specs.declared.form.SimpleForm.{SimpleForm}
-use Rattle.pascal_semantics.specs.Program.{Program as PascalProgram, Row, row_of, entry_from, program_of, first_name}
+use Rattle.pascal_semantics.specs.declared.form.Statement.{Statement}
+use Rattle.pascal_semantics.specs.Program.{Program as PascalProgram, Row, row_of, rows_of, entry_of, program_of}
+use Rattle.pascal_semantics.specs.Valid.{IsProgram, program_name}
 use Rattle.pascal_semantics.specs.State.{Status, NotStarted, Halted, Ended as IsEnded, Failed as HasFailed, State as PascalState}
 use Rattle.pascal_semantics.specs.Run.{driven, started, started_by, run_of}
 use Rattle.pascal_semantics.proofs.Settles.{before_gate}
 use Rattle.statement_code.specs.Forms.{BlockForm, ProgramBlock, StatementBlock, NoCall, Store, HasFrame, FrameHolds, Holds, simple}
-use Rattle.image_plan.specs.Links.{blocks_of, program_name}
+use Rattle.image_plan.specs.Links.{blocks_of}
+use Rattle.image_plan.proofs.Laid.{same_test}
 use Rattle.dice_session.specs.Represents.{AtBegin, AtGate, AtNewest, StandsAt, FramesStand}
-use Rattle.dice_session.specs.Simulates.{IsProgram, IsWellFormed, IsWellFormedBy, CanRun, CanRunBy, Simulates}
-use Rattle.dice_session.proofs.Stages.{stage_of, stage_live, unmarked, short, HasRun, row_named, not_program, form_at, driven_is}
-use Rattle.dice_session.proofs.Good.{cost_bound, spent_bound, AreWords, GoodNamed, Good, good_fits, good_keeps}
+use Rattle.dice_session.specs.Simulates.{IsWellFormed, IsWellFormedBy, CanRun, CanRunBy, Simulates}
+use Rattle.dice_session.proofs.Stages.{stage_of, stage_live, unmarked, short, HasRun, not_program, form_at, Driven, driven_ended, driven_is}
+use Rattle.dice_session.proofs.Good.{cost_bound, spent_bound, AreWords, GoodNamed, Good, left_most, good_fits, good_keeps}
 
 -- what the machine holds does not hang on PC
 holds_on : (d : Store) (hs : List (Hanging NoCall)) (c : Cpu) (q : ℕ) → Holds d hs c → Holds d hs (record c { pc = q })
@@ -32,15 +35,15 @@ holds_on d hs c q h = record { globals_are = record { count = h.globals_are.coun
     by true f = record { frame = f.frame; stack = f.stack; back = f.back; caller = f.caller; static_link = f.static_link; charges = f.charges; zeros = f.zeros }
     by false f = f
 
-module _ (fs : List SimpleForm) (is : IsProgram fs) where
+module _ (ss : List Statement) (is : IsProgram ss) where
   abbrev P : PascalProgram
-  P = program_of fs
+  P = program_of ss
 
   abbrev B : Program BlockForm
   B = blocks_of P
 
   abbrev IsFine : State NoCall Store → Type 0
-  IsFine = Good fs is.forms is.few
+  IsFine = Good ss is
 
   within : (s : Now NoCall Store) → IsFine (Goes s) → is_gate s.start ≡ true → cost simple B (Goes s) + spent simple B short (stretch simple B s) < instruction_limit
   within s good gate = omega (arith, cost_bound B (Goes s), spent_bound B (stretch simple B s))
@@ -52,51 +55,57 @@ module _ (fs : List SimpleForm) (is : IsProgram fs) where
     pub image : HasImage simple B es unmarked cpu.mem
     pub count : ℕ
     pub tells : r ≡ told gates count (stage_of s) cpu
-    pub formed : HasRun fs s
+    pub formed : HasRun ss s
 
   -- from the gate of a statement
   pub gate_good : (n : ℕ) (row : Row) (globals : List ℕ) → row_of P n ≡ Some row → AreWords globals → IsFine (stage_of (before_gate n globals []))
   gate_good n row globals e words =
-      subst (λ b. GoodNamed fs is.forms is.few b (record { name = n; start = At Gate; data_now = record { globals = globals; output = []; started = true }; older = [] })) (sym (not_program fs n row e))
-      (record { words = words; room = omega (arith, row_named first_name fs n row e, is.few) })
+      subst (λ b. GoodNamed ss is b (record { name = n; start = At Gate; data_now = record { globals = globals; output = []; started = true }; older = [] })) (sym (not_program ss n row is.free e))
+      (record { words = words; room = omega (arith, left_most ss n, is.fits) })
 
   pub gate_gone : (es : ℕ → Option Block) (gates n : ℕ) (row : Row) (globals : List ℕ) (c : Cpu) → 1 ≤ gates → row_of P n ≡ Some row → AreWords globals → HasImage simple B es unmarked c.mem → BlocksRepresent simple B es (stage_of (before_gate n globals [])) c → Gone es gates (driven gates P (before_gate n globals [])) (gone gates (state_of c).0 (state_of c).1)
   gate_gone es gates n row globals c some e words image stands =
-      let d = driven_is fs gates n row globals [] e in
+      let d = driven_is ss is.free gates n row globals [] e in
       let x = stage_of (before_gate n globals []) in
       let live : IsLive (drive simple B short unmarked gates x) = subst IsLive d.stage (stage_live (driven gates P (before_gate n globals []))) in
-      let (cpu, st, im, same) = go_runs simple holds_on B es unmarked short IsFine (good_fits fs is.forms is.few) (good_keeps fs is.forms is.few) within gates _ c some (gate_good n row globals e words) refl image stands live in
+      let (cpu, st, im, same) = go_runs simple holds_on B es unmarked short IsFine (good_fits ss is) (good_keeps ss is) within gates _ c some (gate_good n row globals e words) refl image stands live in
       record { cpu = cpu; stands = subst (λ x. BlocksRepresent simple B es x cpu) (sym d.stage) st; image = im; count = gates_passed simple B short unmarked gates x; tells = same ∙ ap (λ y. told gates (gates_passed simple B short unmarked gates x) y cpu) (sym d.stage); formed = d.formed }
 
 -- before the start, a state with these variables
 abbrev pub unstarted : List ℕ → State NoCall Store
 unstarted globals = Goes (record { name = program_name; start = At First; data_now = record { globals = globals; output = []; started = false }; older = [] })
 
+abbrev pub unwritten : PascalState → PascalState
+unwritten s = record s { output = [] }
+
+-- a program's first gate, or its end where it has no statements
+first_driven : (ss : List Statement) (is : IsProgram ss) (gates : ℕ) (s : PascalState) → Driven ss is.free gates (started_by NotStarted (program_of ss) (unwritten s)) (drive_from simple (blocks_of (program_of ss)) short unmarked gates (unstarted s.globals))
+first_driven [] is gates s = driven_ended [] is.free gates (record { status = IsEnded; activations = s.activations; globals = s.globals; output = [] }) refl tt
+first_driven (x ∷ ss) is gates s =
+    let row : Row = record { name = x.name; form = x.form; continuation = entry_of ss } in
+    driven_is (x ∷ ss) is.free gates x.name row s.globals [] (ap (λ b. if b then Some row else find (λ r. r.name == x.name) (rows_of ss)) (same_test x.name x.name refl))
+
 -- from the begin of the program
-begin_gone : (f : SimpleForm) (rest : List SimpleForm) (is : IsProgram (f ∷ rest)) (es : ℕ → Option Block) (gates : ℕ) (globals : List ℕ) (c : Cpu) → 1 ≤ gates → AreWords globals → gate_here (state_of c) ≡ false → HasImage simple (blocks_of (program_of (f ∷ rest))) es unmarked c.mem → BlocksRepresent simple (blocks_of (program_of (f ∷ rest))) es (unstarted globals) c
-    → Gone (f ∷ rest) is es gates (driven gates (program_of (f ∷ rest)) (before_gate first_name globals [])) (gone gates (state_of c).0 (state_of c).1)
-begin_gone f rest is es gates globals c some words no_gate image stands =
-    let fs = f ∷ rest in
-    let B = blocks_of (program_of fs) in
-    let row : Row = record { name = first_name; form = f; continuation = entry_from (first_name + 1) rest } in
-    let d = driven_is fs gates first_name row globals [] refl in
-    let x = unstarted globals in
-    let good : Good fs is.forms is.few x = (refl, record { words = words; room = omega (arith, is.few) }) in
-    let live : IsLive (drive_from simple B short unmarked gates x) = subst IsLive d.stage (stage_live (driven gates (program_of fs) (before_gate first_name globals []))) in
-    let (cpu, st, im, same) = go_from_runs simple holds_on B es unmarked short (Good fs is.forms is.few) (good_fits fs is.forms is.few) (good_keeps fs is.forms is.few) (within fs is) gates x c no_gate good (omega (arith, spent_bound B x)) image stands live in
+begin_gone : (ss : List Statement) (is : IsProgram ss) (es : ℕ → Option Block) (gates : ℕ) (s : PascalState) (c : Cpu) → AreWords s.globals → gate_here (state_of c) ≡ false → HasImage simple (blocks_of (program_of ss)) es unmarked c.mem → BlocksRepresent simple (blocks_of (program_of ss)) es (unstarted s.globals) c
+    → Gone ss is es gates (driven gates (program_of ss) (started_by NotStarted (program_of ss) (unwritten s))) (gone gates (state_of c).0 (state_of c).1)
+begin_gone ss is es gates s c words no_gate image stands =
+    let B = blocks_of (program_of ss) in
+    let d = first_driven ss is gates s in
+    let t = driven gates (program_of ss) (started_by NotStarted (program_of ss) (unwritten s)) in
+    let x = unstarted s.globals in
+    let good : Good ss is x = (refl, record { words = words; room = omega (arith, is.fits) }) in
+    let live : IsLive (drive_from simple B short unmarked gates x) = subst IsLive d.stage (stage_live t) in
+    let (cpu, st, im, same) = go_from_runs simple holds_on B es unmarked short (Good ss is) (good_fits ss is) (good_keeps ss is) (within ss is) gates x c no_gate good (omega (arith, spent_bound B x)) image stands live in
     record { cpu = cpu; stands = subst (λ y. BlocksRepresent simple B es y cpu) (sym d.stage) st; image = im; count = gates_from simple B short unmarked gates x; tells = same ∙ ap (λ y. told gates (gates_from simple B short unmarked gates x) y cpu) (sym d.stage); formed = d.formed }
 
 -- ---- from one simulated state to another
 
-abbrev pub unwritten : PascalState → PascalState
-unwritten s = record s { output = [] }
-
 -- a run on a machine that stands for a state
-pub run_gone : (fs : List SimpleForm) (is : IsProgram fs) (s : PascalState) (gates : ℕ) (machine : MachineState) (console : ConsoleState) → 1 ≤ gates → IsWellFormed fs s → CanRun s → (h : Simulates fs s machine console) → Gone fs is h.blocks gates (run_of (program_of fs) gates s) (gone gates machine console)
-run_gone fs is s gates machine console some formed can h = subst (λ m. Gone fs is h.blocks gates (run_of P gates s) (gone gates m.0 m.1)) h.is (by s.status refl formed can h.represents.control h.represents.frames)
+pub run_gone : (ss : List Statement) (is : IsProgram ss) (s : PascalState) (gates : ℕ) (machine : MachineState) (console : ConsoleState) → 1 ≤ gates → IsWellFormed ss s → CanRun s → (h : Simulates ss s machine console) → Gone ss is h.blocks gates (run_of (program_of ss) gates s) (gone gates machine console)
+run_gone ss is s gates machine console some formed can h = subst (λ m. Gone ss is h.blocks gates (run_of P gates s) (gone gates m.0 m.1)) h.is (by s.status refl formed can h.represents.control h.represents.frames)
   where
     P : PascalProgram
-    P = program_of fs
+    P = program_of ss
 
     c : Cpu
     c = h.cpu
@@ -104,22 +113,21 @@ run_gone fs is s gates machine console some formed can h = subst (λ m. Gone fs 
     words : AreWords s.globals
     words = h.represents.variables.small
 
-    begin : (gs : List SimpleForm) (ig : IsProgram gs) → HasImage simple (blocks_of (program_of gs)) h.blocks unmarked c.mem → AtBegin (h.blocks program_name) c → c.sp ≡ memory_end → Gone gs ig h.blocks gates (driven gates (program_of gs) (started_by NotStarted (program_of gs) (unwritten s))) (gone gates (state_of c).0 (state_of c).1)
-    begin [] ig image at sp = absurd (omega (arith, ig.some))
-    begin (f ∷ rest) ig image at sp =
-        begin_gone f rest ig h.blocks gates s.globals c some words at.no_gate image
+    begin : AtBegin (h.blocks program_name) c → c.sp ≡ memory_end → Gone ss is h.blocks gates (driven gates P (started_by NotStarted P (unwritten s))) (gone gates (state_of c).0 (state_of c).1)
+    begin at sp =
+        begin_gone ss is h.blocks gates s c words at.no_gate h.image
         (record { form = ProgramBlock; has = refl; fits = tt; block = at.lies; entry = at.is; offset = 0; start = at.begin; place = omega (arith, at.place); long = h.long; holds = record { globals_are = h.represents.variables; frame = sp; console = h.represents.console }; waits = tt })
 
-    gate : (n : ℕ) (row : Row) → row_of P n ≡ Some row → AtGate (h.blocks n) c → HasFrame c → Gone fs is h.blocks gates (driven gates P (before_gate n s.globals [])) (gone gates (state_of c).0 (state_of c).1)
+    gate : (n : ℕ) (row : Row) → row_of P n ≡ Some row → AtGate (h.blocks n) c → HasFrame c → Gone ss is h.blocks gates (driven gates P (before_gate n s.globals [])) (gone gates (state_of c).0 (state_of c).1)
     gate n row e at frame =
-        gate_gone fs is h.blocks gates n row s.globals c some e words h.image
-        (record { form = StatementBlock row.form; has = form_at fs n row e; fits = tt; block = at.lies; entry = at.is; offset = 0; start = at.gate; place = omega (arith, at.place); long = h.long; holds = record { globals_are = h.represents.variables; frame = frame; console = h.represents.console }; waits = tt })
+        gate_gone ss is h.blocks gates n row s.globals c some e words h.image
+        (record { form = StatementBlock row.form; has = form_at ss is.free n row e; fits = tt; block = at.lies; entry = at.is; offset = 0; start = at.gate; place = omega (arith, at.place); long = h.long; holds = record { globals_are = h.represents.variables; frame = frame; console = h.represents.console }; waits = tt })
 
-    by : (x : Status) → s.status ≡ x → IsWellFormedBy fs x s.activations → CanRunBy x → StandsAt h.blocks x s.activations c → FramesStand x c → Gone fs is h.blocks gates (run_of P gates s) (gone gates (state_of c).0 (state_of c).1)
-    by NotStarted e f g at frames = subst (λ t. Gone fs is h.blocks gates (driven gates P t) (gone gates (state_of c).0 (state_of c).1)) (sym (ap (λ x. started_by x P (unwritten s)) e)) (begin fs is h.image at frames.0)
+    by : (x : Status) → s.status ≡ x → IsWellFormedBy ss x s.activations → CanRunBy x → StandsAt h.blocks x s.activations c → FramesStand x c → Gone ss is h.blocks gates (run_of P gates s) (gone gates (state_of c).0 (state_of c).1)
+    by NotStarted e f g at frames = subst (λ t. Gone ss is h.blocks gates (driven gates P t) (gone gates (state_of c).0 (state_of c).1)) (sym (ap (λ x. started_by x P (unwritten s)) e)) (begin at frames.0)
     by Halted e (n, row, found, acts) g at frames =
         let same : unwritten s ≡ before_gate n s.globals [] = ap (λ x. record (unwritten s) { status = x }) e ∙ ap (λ a. record { status = Halted; activations = a; globals = s.globals; output = [] }) acts in
         let same2 : started P (unwritten s) ≡ before_gate n s.globals [] = ap (λ x. started_by x P (unwritten s)) e ∙ same in
-        subst (λ t. Gone fs is h.blocks gates (driven gates P t) (gone gates (state_of c).0 (state_of c).1)) (sym same2) (gate n row found (subst (λ a. AtNewest h.blocks a c) acts at).1 frames)
+        subst (λ t. Gone ss is h.blocks gates (driven gates P t) (gone gates (state_of c).0 (state_of c).1)) (sym same2) (gate n row found (subst (λ a. AtNewest h.blocks a c) acts at).1 frames)
     by IsEnded e f g at frames = absurd g
     by (HasFailed error name) e f g at frames = absurd g

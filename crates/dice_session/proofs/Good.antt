@@ -1,5 +1,5 @@
 -- What is kept along a run: variables are words, and the output has room for what is still to be written.
-use Rattle.std.proofs.Common.{◌≡◌, ◌≢◌, ℕ, suc, ◌+◌, ◌-◌, ◌*◌, ◌%◌, ◌<◌, ◌≤◌, Bool, true, false, List, [], ◌∷◌, ◌++◌, length, Option, Some, None, refl, sym, ap, ◌∙◌, subst, arith, length-append, inl, inr, ◌⊎◌}
+use Rattle.std.proofs.Common.{◌≡◌, ◌≢◌, ℕ, ◌+◌, ◌*◌, ◌%◌, ◌<◌, ◌≤◌, Bool, true, false, List, [], ◌∷◌, ◌++◌, length, Option, Some, None, refl, sym, ap, ◌∙◌, subst, arith, length-append, inl, inr, ◌⊎◌}
 use Rattle.std.specs.Prelude.{slice_index, slice_set, ◌==◌, if◌then◌else◌, find}
 use Rattle.std.specs.List.{AllByRecursion}
 use Rattle.std.proofs.lemmas.Bool.{cases_eq}
@@ -12,20 +12,20 @@ use Rattle.code_image.specs.Plain.{Program, Pending, Now, State, Goes, Ended, Fa
 use Rattle.pascal_semantics.specs.declared.form.Operand.{Operand}
 use Rattle.pascal_semantics.specs.declared.form.Operand.TheVariants.{Global, Number}
 use Rattle.pascal_semantics.specs.declared.form.SimpleForm.{SimpleForm}
-use Rattle.pascal_semantics.specs.declared.form.SimpleForm.TheVariants.{Assign, WriteLine}
-use Rattle.pascal_semantics.specs.Charge.{charge_of, operand_charge, second_charge, width_charge}
-use Rattle.pascal_semantics.specs.Program.{Program as PascalProgram, Target, Gate as GateOf, Finish, Row, row_of, rows_from, entry_from, program_of, first_name}
+use Rattle.pascal_semantics.specs.declared.form.Statement.{Statement}
+use Rattle.pascal_semantics.specs.declared.form.SimpleForm.TheVariants.{Assign, WriteLine, Empty}
+use Rattle.pascal_semantics.specs.Charge.{charge_of, operand_charge, second_charge, width_charge, charges_of}
+use Rattle.pascal_semantics.specs.Program.{Program as PascalProgram, Target, Gate as GateOf, Finish, Row, row_of, rows_of, entry_of, program_of}
+use Rattle.pascal_semantics.specs.Valid.{IsOperand, IsSecond, IsWidth, IsForm, AllDiffer, IsProgram, program_name}
 use Rattle.pascal_semantics.specs.Step.{Result, Value, Error, operand_value, width_of, integer_text}
-use Rattle.pascal_semantics.specs.Outcome.{sum_in, sum_outcome}
-use Rattle.statement_code.specs.Code.{IsOperand, IsSecond, IsSum, IsWidth, IsForm}
+use Rattle.pascal_semantics.specs.Outcome.{sum_outcome, form_outcome}
 use Rattle.statement_code.specs.Forms.{BlockForm, ProgramBlock, StatementBlock, NoCall, Store, stored, exit_by, outcome_of, block_charge, simple}
 use Rattle.statement_code.proofs.Sums.{sum-is, is_lost}
 use Rattle.statement_code.proofs.Texts.{text-is, length_of_text}
 use Rattle.std.proofs.lemmas.Nat.{mod_below}
 use Rattle.std.proofs.Math.Dec.{lit<}
-use Rattle.image_plan.specs.Links.{blocks_of, program_name, spot_of, form_of, end_of}
-use Rattle.image_plan.proofs.Laid.{other_test, is_same}
-use Rattle.dice_session.proofs.Stages.{row_named}
+use Rattle.image_plan.specs.Links.{blocks_of, spot_of, form_of, end_of}
+use Rattle.image_plan.proofs.Laid.{other_test, entry_free, found_apart}
 
 -- ---- bounds on steps
 
@@ -44,6 +44,7 @@ width_bound (Some w) = omega arith
 charge_bound : (f : SimpleForm) → charge_of f ≤ 84
 charge_bound (Assign g e) = omega (arith, operand_bound e.first, second_bound e.second)
 charge_bound (WriteLine e w) = omega (arith, operand_bound e.first, second_bound e.second, width_bound w)
+charge_bound Empty = omega arith
 
 block_bound : (f : BlockForm) → block_charge f ≤ 84
 block_bound ProgramBlock = omega arith
@@ -102,77 +103,96 @@ width_small : (w : Option ℕ) → IsWidth w → width_of w < 256
 width_small None is = omega arith
 width_small (Some w) is = omega (arith, is.1)
 
--- the most that one statement writes
-stored_room : (f : SimpleForm) (v : ℕ) (d : Store) → IsForm f → v < 65536 → length (stored f v d).output ≤ length d.output + 257
+operand_least : (o : Operand) → 4 ≤ operand_charge o
+operand_least (Global g) = omega arith
+operand_least (Number n) = omega arith
+
+-- a statement writes six bytes at the most for each word of its block
+stored_room : (f : SimpleForm) (v : ℕ) (d : Store) → IsForm f → v < 65536 → length (stored f v d).output ≤ length d.output + 6 * charge_of f
 stored_room (Assign g e) v d is lt = omega arith
 stored_room (WriteLine e w) v d is lt =
     let text = integer_text v (width_of w) in
     let short : length text ≤ 256 = subst (λ t. length t ≤ 256) (text-is v (width_of w) lt) (length_of_text v (width_of w) lt (width_small w is.1)) in
-    omega (arith, length-append d.output (text ++ 10 ∷ []), length-append text (10 ∷ []), short)
+    omega (arith, length-append d.output (text ++ 10 ∷ []), length-append text (10 ∷ []), short, operand_least e.first)
+stored_room Empty v d is lt = omega arith
 
 stored_words : (f : SimpleForm) (v : ℕ) (d : Store) → v < 65536 → AreWords d.globals → AreWords (stored f v d).globals
 stored_words (Assign g e) v d lt words = set_words d.globals g v lt words
 stored_words (WriteLine e w) v d lt words = words
+stored_words Empty v d lt words = words
 
-form_sum : (f : SimpleForm) → IsForm f → IsSum (sum_in f)
-form_sum (Assign g e) is = is.1
-form_sum (WriteLine e w) is = is.0
+form_word : (f : SimpleForm) (globals : List ℕ) → IsForm f → AreWords globals → IsWordResult (form_outcome f globals)
+form_word (Assign g e) globals is words = outcome_word e.first e.second globals is.1.0 is.1.1 words
+form_word (WriteLine e w) globals is words = outcome_word e.first e.second globals is.0.0 is.0.1 words
+form_word Empty globals is words = omega arith
 
 -- ---- the statements that are left
 
-row_form : (P : SimpleForm → Type 0) (n : ℕ) (fs : List SimpleForm) (m : ℕ) (row : Row) → AllByRecursion P fs → find (λ r. r.name == m) (rows_from n fs) ≡ Some row → P row.form
-row_form P n [] m row h e = absurd (grind (arith, e))
-row_form P n (f ∷ fs) m row h e = by (n == m) e (λ g. row_form P (n + 1) fs m row h.1 g)
+row_form : (P : SimpleForm → Type 0) (ss : List Statement) (m : ℕ) (row : Row) → AllByRecursion (λ s. P s.form) ss → find (λ r. r.name == m) (rows_of ss) ≡ Some row → P row.form
+row_form P [] m row h e = absurd (grind (arith, e))
+row_form P (s ∷ ss) m row h e = by (s.name == m) e (λ g. row_form P ss m row h.1 g)
   where
-    by : (b : Bool) → (if b then Some (record { name = n; form = f; continuation = entry_from (n + 1) fs }) else find (λ r. r.name == m) (rows_from (n + 1) fs)) ≡ Some row → (find (λ r. r.name == m) (rows_from (n + 1) fs) ≡ Some row → P row.form) → P row.form
-    by true g rest = let same : record { name = n; form = f; continuation = entry_from (n + 1) fs } ≡ row = cc g in subst (λ r. P r.form) same h.0
+    by : (b : Bool) → (if b then Some (record { name = s.name; form = s.form; continuation = entry_of ss }) else find (λ r. r.name == m) (rows_of ss)) ≡ Some row → (find (λ r. r.name == m) (rows_of ss) ≡ Some row → P row.form) → P row.form
+    by true g rest = let same : record { name = s.name; form = s.form; continuation = entry_of ss } ≡ row = cc g in subst (λ r. P r.form) same h.0
     by false g rest = rest g
 
--- a statement stands before the end, and leads to the next one
-record Placed (n count m : ℕ) (row : Row) : Type 0 where
-  before : m < n + count
-  next : (k : ℕ) → row.continuation ≡ GateOf k → k ≡ m + 1
+-- the words of the statements from this one on
+abbrev pub left_from : List Statement → ℕ → ℕ
+left_from [] m = 0
+left_from (s ∷ ss) m = if s.name == m then charges_of (s ∷ ss) else left_from ss m
 
-entry_name : (n : ℕ) (fs : List SimpleForm) (k : ℕ) → entry_from n fs ≡ GateOf k → k ≡ n
-entry_name n [] k e = absurd (grind (arith, e))
-entry_name n (f ∷ fs) k e = cc e
-
-row_placed : (n : ℕ) (fs : List SimpleForm) (m : ℕ) (row : Row) → find (λ r. r.name == m) (rows_from n fs) ≡ Some row → Placed n (length fs) m row
-row_placed n [] m row e = absurd (grind (arith, e))
-row_placed n (f ∷ fs) m row e = by (n == m) refl e (λ g. row_placed (n + 1) fs m row g)
+pub left_most : (ss : List Statement) (m : ℕ) → left_from ss m ≤ charges_of ss
+left_most [] m = omega arith
+left_most (s ∷ ss) m = by (s.name == m) (left_most ss m)
   where
-    by : (b : Bool) → (n == m) ≡ b → (if b then Some (record { name = n; form = f; continuation = entry_from (n + 1) fs }) else find (λ r. r.name == m) (rows_from (n + 1) fs)) ≡ Some row → (find (λ r. r.name == m) (rows_from (n + 1) fs) ≡ Some row → Placed (n + 1) (length fs) m row) → Placed n (suc (length fs)) m row
-    by true t g rest =
-        let same : record { name = n; form = f; continuation = entry_from (n + 1) fs } ≡ row = cc g in
-        let name : n ≡ m = is_same n m t in
-        record { before = omega (arith, name); next = λ k h. entry_name (n + 1) fs k (ap (λ r. r.continuation) same ∙ h) ∙ ap (λ i. i + 1) name }
-    by false t g rest = let p = rest g in record { before = omega (arith, p.before); next = p.next }
+    by : (b : Bool) → left_from ss m ≤ charges_of ss → (if b then charges_of (s ∷ ss) else left_from ss m) ≤ charges_of (s ∷ ss)
+    by true rest = omega arith
+    by false rest = omega (arith, rest)
+
+-- what a statement leads to has fewer words left, by those of the statement
+row_left : (ss : List Statement) (m k : ℕ) (row : Row) → AllDiffer ss → find (λ r. r.name == m) (rows_of ss) ≡ Some row → row.continuation ≡ GateOf k → left_from ss k + charge_of row.form ≤ left_from ss m
+row_left [] m k row d e g = absurd (grind (arith, e))
+row_left (s ∷ ss) m k row d e g = by (s.name == m) refl e (λ f. (row_left ss m k row d.1 f g, (found_apart s.name ss m row d.0 f).after k g))
+  where
+    first_row : Row
+    first_row = record { name = s.name; form = s.form; continuation = entry_of ss }
+
+    later : s.name ≢ k → left_from (s ∷ ss) k ≡ left_from ss k
+    later ne = ap (λ b. if b then charges_of (s ∷ ss) else left_from ss k) (other_test s.name k ne)
+
+    at : (b : Bool) → (s.name == m) ≡ b → left_from (s ∷ ss) m ≡ (if b then charges_of (s ∷ ss) else left_from ss m)
+    at b t = ap (λ b. if b then charges_of (s ∷ ss) else left_from ss m) t
+
+    by : (b : Bool) → (s.name == m) ≡ b → (if b then Some first_row else find (λ r. r.name == m) (rows_of ss)) ≡ Some row
+        → (find (λ r. r.name == m) (rows_of ss) ≡ Some row → (left_from ss k + charge_of row.form ≤ left_from ss m) × (s.name ≢ k)) → left_from (s ∷ ss) k + charge_of row.form ≤ left_from (s ∷ ss) m
+    by true t h rest =
+        let same : first_row ≡ row = cc h in
+        let ne : s.name ≢ k = entry_free s.name ss k d.0 (ap (λ r. r.continuation) same ∙ g) in
+        omega (arith, later ne, at true t, left_most ss k, ap (λ r. charge_of r.form) same)
+    by false t h rest = let r = rest h in omega (arith, later r.1, at false t, r.0)
 
 -- ---- what is kept
 
-module _ (fs : List SimpleForm) (forms : AllByRecursion IsForm fs) (few : length fs ≤ 100) where
+module _ (ss : List Statement) (valid : IsProgram ss) where
   abbrev P : PascalProgram
-  P = program_of fs
+  P = program_of ss
 
   abbrev B : Program BlockForm
   B = blocks_of P
 
-  -- how many statements there are from this name on
-  abbrev left_from : ℕ → ℕ
-  left_from n = first_name + length fs - n
-
-  pub record HasRoom (n : ℕ) (d : Store) : Type 0 where
+  -- there is room for all that statements of so many words write
+  pub record HasRoom (left : ℕ) (d : Store) : Type 0 where
     pub words : AreWords d.globals
-    pub room : length d.output + 257 * left_from n ≤ 32768
+    pub room : length d.output + 6 * left ≤ 61440
 
   -- the program's block makes the frame once
   abbrev pub GoodBegin : Begin NoCall → Store → Type 0
-  GoodBegin (At First) d = (d.started ≡ false) × HasRoom first_name d
+  GoodBegin (At First) d = (d.started ≡ false) × HasRoom (charges_of ss) d
   GoodBegin other d = Unit {0}
 
   abbrev pub GoodNamed : Bool → Now NoCall Store → Type 0
   GoodNamed true s = GoodBegin s.start s.data_now
-  GoodNamed false s = HasRoom s.name s.data_now
+  GoodNamed false s = HasRoom (left_from ss s.name) s.data_now
 
   abbrev pub Good : State NoCall Store → Type 0
   Good (Goes s) = GoodNamed (s.name == program_name) s
@@ -189,7 +209,7 @@ module _ (fs : List SimpleForm) (forms : AllByRecursion IsForm fs) (few : length
       by_start (At Leave) d g = tt
       by_start (Back path) d g = absurd path
 
-      by_row : (o : Option Row) → HasRoom s.name s.data_now → IsGoodNow simple B s (form_of o)
+      by_row : (o : Option Row) → HasRoom (left_from ss s.name) s.data_now → IsGoodNow simple B s (form_of o)
       by_row None g = tt
       by_row (Some row) g = omega (arith, g.room)
 
@@ -201,8 +221,8 @@ module _ (fs : List SimpleForm) (forms : AllByRecursion IsForm fs) (few : length
   good_fits Stuck good = tt
 
   -- where a program or a statement leads
-  good_spot : (t : Target) (d : Store) → ((k : ℕ) → t ≡ GateOf k → (first_name ≤ k) × HasRoom k d) → Good (begun_at simple B (spot_of t) d [])
-  good_spot (GateOf k) d h = let g = h k refl in subst (λ b. GoodNamed b (record { name = k; start = At Gate; data_now = d; older = [] })) (sym (other_test k program_name (omega (arith, g.0)))) g.1
+  good_spot : (t : Target) (d : Store) → ((k : ℕ) → t ≡ GateOf k → (program_name ≢ k) × HasRoom (left_from ss k) d) → Good (begun_at simple B (spot_of t) d [])
+  good_spot (GateOf k) d h = let g = h k refl in subst (λ b. GoodNamed b (record { name = k; start = At Gate; data_now = d; older = [] })) (sym (other_test k program_name (λ x. g.0 (sym x)))) g.1
   good_spot Finish d h = tt
 
   pub good_keeps : (x : State NoCall Store) → Good x → Good (next simple B x)
@@ -219,29 +239,26 @@ module _ (fs : List SimpleForm) (forms : AllByRecursion IsForm fs) (few : length
       by_start : (st : Begin NoCall) (d : Store) → (s.name == program_name) ≡ true → GoodBegin st d → Good (moved simple B s.name s.older (simple.does ProgramBlock st d))
       by_start (At First) d t g =
           subst (λ spot. Good (begun_at simple B spot (record d { started = true }) s.older)) (sym (ap (λ b. if b then spot_of P.entry else end_of (row_of P s.name)) t))
-          (good_older s.older (spot_of P.entry) (record d { started = true }) (good_spot P.entry (record d { started = true }) (λ k e. let same = entry_name first_name fs k e in (omega (arith, same), record { words = g.1.words; room = omega (arith, g.1.room, same) }))))
+          (good_older s.older (spot_of P.entry) (record d { started = true }) (good_spot P.entry (record d { started = true }) (λ k e. (entry_free program_name ss k valid.free e, record { words = g.1.words; room = omega (arith, g.1.room, left_most ss k) }))))
       by_start (At Gate) d t g = tt
       by_start (At Step) d t g = tt
       by_start (At End) d t g = tt
       by_start (At Leave) d t g = tt
       by_start (Back path) d t g = absurd path
 
-      by_result : (row : Row) (r : Result) → (s.name == program_name) ≡ false → row_of P s.name ≡ Some row → HasRoom s.name s.data_now → IsWordResult r → Good (moved simple B s.name s.older (exit_by row.form s.data_now r))
+      by_result : (row : Row) (r : Result) → (s.name == program_name) ≡ false → row_of P s.name ≡ Some row → HasRoom (left_from ss s.name) s.data_now → IsWordResult r → Good (moved simple B s.name s.older (exit_by row.form s.data_now r))
       by_result row (Error number) t e g w = tt
       by_result row (Value v) t e g w =
-          let is = row_form IsForm first_name fs s.name row forms e in
-          let placed = row_placed first_name fs s.name row e in
-          let later = row_named first_name fs s.name row e in
+          let is = row_form IsForm ss s.name row valid.forms e in
           let d = stored row.form v s.data_now in
           let spot : B.link_end s.name Next ≡ spot_of row.continuation = ap (λ b. if b then spot_of P.entry else end_of (row_of P s.name)) t ∙ ap end_of e in
           subst (λ q. Good (begun_at simple B q d s.older)) (sym spot)
-          (good_older s.older (spot_of row.continuation) d (good_spot row.continuation d (λ k h. (omega (arith, placed.next k h, later), record { words = stored_words row.form v s.data_now w g.words; room = omega (arith, g.room, stored_room row.form v s.data_now is w, placed.next k h, placed.before, later) }))))
+          (good_older s.older (spot_of row.continuation) d (good_spot row.continuation d (λ k h. ((found_apart program_name ss s.name row valid.free e).after k h, record { words = stored_words row.form v s.data_now w g.words; room = omega (arith, g.room, stored_room row.form v s.data_now is w, row_left ss s.name k row valid.differ e h) }))))
 
-      by_row : (o : Option Row) → (s.name == program_name) ≡ false → row_of P s.name ≡ o → HasRoom s.name s.data_now → Good (stretch_of simple B s (form_of o))
+      by_row : (o : Option Row) → (s.name == program_name) ≡ false → row_of P s.name ≡ o → HasRoom (left_from ss s.name) s.data_now → Good (stretch_of simple B s (form_of o))
       by_row None t e g = tt
       by_row (Some row) t e g =
-          let sum = form_sum row.form (row_form IsForm first_name fs s.name row forms e) in
-          by_result row (outcome_of row.form s.data_now) t e g (outcome_word (sum_in row.form).first (sum_in row.form).second s.data_now.globals sum.0 sum.1 g.words)
+          by_result row (outcome_of row.form s.data_now) t e g (form_word row.form s.data_now.globals (row_form IsForm ss s.name row valid.forms e) g.words)
 
       by : (b : Bool) → (s.name == program_name) ≡ b → GoodNamed b s → Good (stretch_of simple B s (if b then Some ProgramBlock else form_of (row_of P s.name)))
       by true t g = by_start s.start s.data_now t g

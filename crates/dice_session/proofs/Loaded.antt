@@ -1,5 +1,5 @@
 -- A machine into which a program was loaded stands for the state before its start.
-use Rattle.std.proofs.Common.{◌≡◌, ◌≢◌, ℕ, ◌+◌, ◌*◌, ◌<◌, ◌≤◌, ◌⊎◌, inl, inr, false, List, [], ◌∷◌, length, replicate, Option, Some, None, refl, sym, ap, ◌∙◌, arith, length-set}
+use Rattle.std.proofs.Common.{◌≡◌, ◌≢◌, ℕ, ◌+◌, ◌*◌, ◌<◌, ◌≤◌, ◌⊎◌, inl, inr, false, List, [], ◌∷◌, length, replicate, refl, sym, ap, ◌∙◌, arith, length-set}
 use Rattle.std.specs.Prelude.{slice_index, slice_set, ◌/◌, nat_eq, ◌||◌}
 use Rattle.std.proofs.lemmas.Bool.Decides.{nat_tests}
 use Rattle.std.proofs.lemmas.List.{get_or-set_same, get_or-set_other, length-replicate, get_or_past, get_or-replicate}
@@ -8,18 +8,15 @@ use Rattle.pdp11_machine.specs.State.{State as MachineState, with_word, zero_mac
 use Rattle.console_service.specs.Console.{ConsoleState}
 use Rattle.console_service.specs.Run.{gate_here}
 use Rattle.console_service.specs.Cpu.{Cpu, state_of, HasAt, code_begin, globals_begin, memory_end}
-use Rattle.pascal_semantics.specs.declared.form.SimpleForm.{SimpleForm}
-use Rattle.pascal_semantics.specs.Charge.{charge_of, operand_charge, second_charge, width_charge, program_charge, charges_of}
+use Rattle.pascal_semantics.specs.declared.form.Statement.{Statement}
+use Rattle.pascal_semantics.specs.Charge.{program_charge}
 use Rattle.pascal_semantics.specs.State.{loaded_state}
-use Rattle.pascal_semantics.specs.declared.form.SimpleForm.TheVariants.{Assign, WriteLine}
-use Rattle.pascal_semantics.specs.declared.form.Operand.{Operand}
-use Rattle.pascal_semantics.specs.declared.form.Operand.TheVariants.{Global, Number}
 use Rattle.statement_code.specs.Emitted.{IsNoGate}
-use Rattle.image_plan.specs.Links.{program_name}
+use Rattle.pascal_semantics.specs.Valid.{IsProgram, program_name}
 use Rattle.dice_session.proofs.After.{parts_of}
 use Rattle.image_plan.specs.Load.{IsLoad, placed}
 use Rattle.dice_session.specs.Places.{poked, ready}
-use Rattle.dice_session.specs.Simulates.{IsProgram, StandsFor}
+use Rattle.dice_session.specs.Simulates.{StandsFor}
 
 -- ---- a memory with words written
 
@@ -82,32 +79,10 @@ no_gate mem k w e is =
     let a : nat_eq w 160 ≡ false = grind (arith, nat_tests, is.no_nop) in let b : nat_eq w 3 ≡ false = grind (arith, nat_tests, is.no_bpt) in
     ap (λ x. nat_eq x 160 || nat_eq x 3) e ∙ ap (λ x. x || nat_eq w 3) a ∙ b
 
--- ---- the size of a program
-
-operand_few : (x : Operand) → operand_charge x ≤ 12
-operand_few (Global g) = omega arith
-operand_few (Number n) = omega arith
-
-second_few : (x : Option Operand) → second_charge x ≤ 28
-second_few None = omega arith
-second_few (Some x) = omega (arith, operand_few x)
-
-width_few : (w : Option ℕ) → width_charge w ≤ 4
-width_few None = omega arith
-width_few (Some w) = omega arith
-
-few : (f : SimpleForm) → charge_of f ≤ 84
-few (Assign g e) = omega (arith, operand_few e.first, second_few e.second)
-few (WriteLine e w) = omega (arith, operand_few e.first, second_few e.second, width_few w)
-
-pub charges_few : (fs : List SimpleForm) → charges_of fs ≤ 84 * length fs
-charges_few [] = omega arith
-charges_few (f ∷ fs) = omega (arith, few f, charges_few fs)
-
 -- ---- the whole
 
-pub loaded_stands : (fs : List SimpleForm) (ws : List ℕ) → IsProgram fs → IsLoad fs ws → StandsFor fs loaded_state (ready (poked zero_machine 256 ws))
-loaded_stands fs ws is l k empty = record {
+pub loaded_stands : (ss : List Statement) (ws : List ℕ) → IsProgram ss → IsLoad ss ws → StandsFor ss loaded_state (ready (poked zero_machine 256 ws))
+loaded_stands ss ws is l k empty = record {
   cpu = c;
   is = is_loaded ws k;
   long = long;
@@ -132,8 +107,8 @@ loaded_stands fs ws is l k empty = record {
     long : length mem ≡ memory_end
     long = with_long (replicate 28672 0) 256 ws ∙ length-replicate {A = ℕ} 28672 0
 
-    most : 256 + length ws ≤ 8688
-    most = omega (arith, l.long, charges_few fs, is.few)
+    most : 256 + length ws ≤ 10496
+    most = omega (arith, l.long, is.fits)
 
     here : HasAt mem code_begin ws
     here = with_at (replicate 28672 0) 256 ws (omega (arith, most, length-replicate {A = ℕ} 28672 0))

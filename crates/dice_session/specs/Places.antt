@@ -2,31 +2,30 @@
 use Rattle.std.specs.Prelude.{ℕ, ◌+◌, ◌-◌, ◌*◌, nat_lt, if◌then◌else◌, List, [], ◌∷◌, ◌++◌, codes}
 use Rattle.std.specs.Fmt.{decimal}
 use Rattle.console_service.specs.Cpu.{code_begin}
-use Rattle.pascal_semantics.specs.declared.form.SimpleForm.{SimpleForm}
+use Rattle.pascal_semantics.specs.declared.form.Statement.{Statement}
 use Rattle.pascal_semantics.specs.Charge.{charge_of, program_charge}
-use Rattle.pascal_semantics.specs.Program.{first_name}
-use Rattle.image_plan.specs.Links.{program_name}
+use Rattle.pascal_semantics.specs.Valid.{program_name}
 use Rattle.pdp11_machine.specs.State.{State, with_word, with_reg}
 use Rattle.target_monitor.specs.declared.gates.GoEnd.{GoEnd}
 use Rattle.target_monitor.specs.declared.gates.GoEnd.TheVariants.{Counted, AtBreak, Ended, Error}
 use Rattle.dice_session.specs.World.{line}
 
 -- the statement whose block a word number lies in, among those that begin behind `finish`; 0 behind them all
-unfoldable pub name_from : ℕ → ℕ → List SimpleForm → ℕ → ℕ
-name_from name finish [] place = 0
-name_from name finish (f ∷ fs) place = if nat_lt place (finish + charge_of f) then name else name_from (name + 1) (finish + charge_of f) fs place
+unfoldable pub name_from : ℕ → List Statement → ℕ → ℕ
+name_from finish [] place = 0
+name_from finish (s ∷ ss) place = if nat_lt place (finish + charge_of s.form) then s.name else name_from (finish + charge_of s.form) ss place
 
 -- the same among all blocks of the program, whose own name stands for all words before the statements
-abbrev pub name_at : List SimpleForm → ℕ → ℕ
-name_at fs place = if nat_lt place (code_begin + program_charge) then program_name else name_from first_name (code_begin + program_charge) fs place
+abbrev pub name_at : List Statement → ℕ → ℕ
+name_at ss place = if nat_lt place (code_begin + program_charge) then program_name else name_from (code_begin + program_charge) ss place
 
 -- what is told of a run that ended so, with PC at this word number
-abbrev pub ending_told : List SimpleForm → GoEnd → ℕ → List ℕ
-ending_told fs Counted place = line (codes "stopped at " ++ decimal (name_at fs place))
-ending_told fs AtBreak place = line (codes "stopped at " ++ decimal (name_at fs place))
-ending_told fs Ended place = line (codes "ended")
-ending_told fs (Error error) place = line (codes "error " ++ (decimal error ++ (codes " at " ++ decimal (name_at fs (place - 1)))))
-ending_told fs other place = []
+abbrev pub ending_told : List Statement → GoEnd → ℕ → List ℕ
+ending_told ss Counted place = line (codes "stopped at " ++ decimal (name_at ss place))
+ending_told ss AtBreak place = line (codes "stopped at " ++ decimal (name_at ss place))
+ending_told ss Ended place = line (codes "ended")
+ending_told ss (Error error) place = line (codes "error " ++ (decimal error ++ (codes " at " ++ decimal (name_at ss (place - 1)))))
+ending_told ss other place = []
 
 -- words are written from this word number on
 unfoldable pub poked : State → ℕ → List ℕ → State

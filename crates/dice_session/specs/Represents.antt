@@ -5,7 +5,7 @@ use Rattle.console_service.specs.Run.{gate_here}
 use Rattle.console_service.specs.Cpu.{Cpu, state_of, code_begin, globals_begin, memory_end}
 use Rattle.code_image.specs.Block.{First, Gate, Block}
 use Rattle.code_image.specs.Image.{InWords, end_word, trap_word}
-use Rattle.image_plan.specs.Links.{program_name}
+use Rattle.pascal_semantics.specs.Valid.{program_name}
 use Rattle.pascal_semantics.specs.State.{Status, NotStarted, Halted, Ended, Failed, Activation, State}
 use Rattle.statement_code.specs.Gives.{HasGlobals}
 use Rattle.statement_code.specs.Forms.{HasFrame}

@@ -2,6 +2,7 @@
 use Rattle.std.specs.Prelude.{ℕ, ◌+◌, ◌-◌, ◌==◌, if◌then◌else◌, List, [], ◌∷◌, ◌++◌, length, codes, slice_index, Option, Some, None}
 use Rattle.std.specs.Fmt.{decimal}
 use Rattle.pascal_semantics.specs.declared.form.SimpleForm.{SimpleForm}
+use Rattle.pascal_semantics.specs.declared.form.Statement.{Statement}
 use Rattle.pascal_semantics.specs.Charge.{program_charge, charges_of}
 use Rattle.pascal_semantics.specs.Program.{program_of}
 use Rattle.pascal_semantics.specs.State.{Status, NotStarted, Halted, Ended, Failed, Activation, State, loaded_state}
@@ -10,7 +11,7 @@ use Rattle.simple_script.specs.Script.{Command, Load, Run}
 
 -- the present program's statements, if there is one, and its state
 pub record World : Type 0 where
-  pub program : Option (List SimpleForm)
+  pub program : Option (List Statement)
   pub state : State
 
 abbrev pub empty_world : World
@@ -21,8 +22,8 @@ abbrev pub line : List ℕ → List ℕ
 line text = text ++ (10 ∷ [])
 
 -- `loaded B blocks W words`: all blocks, and the sum of their charges
-abbrev pub loaded_reply : List SimpleForm → List ℕ
-loaded_reply fs = line (codes "loaded " ++ (decimal (1 + length fs) ++ (codes " blocks " ++ (decimal (program_charge + charges_of fs) ++ codes " words"))))
+abbrev pub loaded_reply : List Statement → List ℕ
+loaded_reply ss = line (codes "loaded " ++ (decimal (1 + length ss) ++ (codes " blocks " ++ (decimal (program_charge + charges_of ss) ++ codes " words"))))
 
 -- the last byte of a text that is not empty
 abbrev pub last_of : List ℕ → ℕ
@@ -53,13 +54,25 @@ abbrev pub run_reply : State → List ℕ
 run_reply s = written_part s.output ++ ending_of s.status s.activations
 
 -- a run of the present program, if there is one
-abbrev pub run_in : Option (List SimpleForm) → ℕ → World → World × List ℕ
+abbrev pub run_in : Option (List Statement) → ℕ → World → World × List ℕ
 run_in None k w = (w, line (codes "no program"))
-run_in (Some fs) k w = (record w { state = run_of (program_of fs) k w.state }, run_reply (run_of (program_of fs) k w.state))
+run_in (Some ss) k w = (record w { state = run_of (program_of ss) k w.state }, run_reply (run_of (program_of ss) k w.state))
+
+-- the names before the first statement: the program, its variables, and its body
+abbrev pub first_name : ℕ
+first_name = 4
+
+-- the statements of a simple program have the names from this one on, in text order
+abbrev pub named_from : ℕ → List SimpleForm → List Statement
+named_from n [] = []
+named_from n (f ∷ fs) = record { name = n; form = f } ∷ named_from (n + 1) fs
+
+abbrev pub named : List SimpleForm → List Statement
+named fs = named_from first_name fs
 
 -- the world after a command, and its reply
 abbrev pub reply_of : World → Command → World × List ℕ
-reply_of w (Load p) = (record { program = Some p.statements; state = loaded_state }, loaded_reply p.statements)
+reply_of w (Load p) = (record { program = Some (named p.statements); state = loaded_state }, loaded_reply (named p.statements))
 reply_of w (Run k) = run_in w.program k w
 
 -- the transcript of commands, and the world after them

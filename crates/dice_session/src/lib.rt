@@ -9,4 +9,5 @@ mod running;
 mod tests;
 
 pub use loading::load;
+pub use pascal_semantics::code_words;
 pub use running::run;

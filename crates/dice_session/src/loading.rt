@@ -1,16 +1,16 @@
 //! Loading a program.
-ghost use Rattle.std.specs.Prelude.{◌≡◌, ◌+◌, ◌≤◌, ◌++◌, [], length, OnOk, OnErr};
+ghost use Rattle.std.specs.Prelude.{◌≡◌, ◌≤◌, ◌++◌, [], length, OnOk, OnErr};
 ghost use Rattle.pascal_semantics.specs.State.{loaded_state};
-ghost use Rattle.pdp11_machine.specs.State.{zero_machine, with_reg};
-ghost use Rattle.console_service.specs.Console.{ConsoleState};
+ghost use Rattle.pascal_semantics.specs.Valid.{IsProgram};
 ghost use Rattle.dice_session.specs.World.{loaded_reply};
 ghost use Rattle.dice_session.specs.Places.{poked, ready};
-ghost use Rattle.dice_session.specs.Simulates.{IsProgram, StandsFor};
+ghost use Rattle.dice_session.specs.Simulates.{StandsFor};
 
 use crate::reply::push_loaded;
+use console_service::Console;
 use dice_base::{NoMemory, Text};
 use image_plan::load_words;
-use pascal_semantics::SimpleForm;
+use pascal_semantics::Statement;
 use pdp11_machine::Machine;
 use std::alloc::Global;
 
@@ -20,22 +20,26 @@ const CODE_BEGIN: u16 = 512;
 /// The byte address behind the memory.
 const MEMORY_END: u16 = 57344;
 
-/// Loads a program into a machine that was not used: its blocks are written from byte 512 on, and the machine is ready
-/// to begin it. The reply goes behind `out`.
+/// Loads a program: machine and console are made as new, whatever they were used for, and its blocks are written from
+/// byte 512 on, so that the machine is ready to begin it. The reply goes behind `out`.
 pub fn load(
     alloc: Global,
-    forms: &[SimpleForm],
+    statements: &[Statement],
     machine: &mut Machine,
+    console: &mut Console,
     out: &mut Text,
 ) -> Result<(), NoMemory>
-    requires program { IsProgram forms.now }
-    requires unused { machine.old ≡ zero_machine }
-    ensures reply { OnOk result (out.new ≡ out.old ++ loaded_reply forms.now) }
-    ensures stands { OnOk result (StandsFor forms.now loaded_state machine.new) }
-    ensures kept { OnErr result (machine.new ≡ machine.old) }
+    requires { IsProgram statements.now }
+    ensures reply { OnOk result (out.new ≡ out.old ++ loaded_reply statements.now) }
+    ensures stands { OnOk result (StandsFor statements.now loaded_state machine.new) }
+    ensures drained { OnOk result (console.new.output ≡ []) }
+    ensures machine_kept { OnErr result (machine.new ≡ machine.old) }
+    ensures console_kept { OnErr result (console.new ≡ console.old) }
 {
-    let words = load_words(alloc, forms)?;
-    push_loaded(alloc, out, forms, words.len())?;
+    let words = load_words(alloc, statements)?;
+    push_loaded(alloc, out, statements, words.len())?;
+    console.reset();
+    machine.reset();
     write_words(machine, &words);
     Ok(())
 }

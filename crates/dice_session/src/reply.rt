@@ -1,12 +1,13 @@
 //! The lines of replies.
-ghost use Rattle.std.specs.Prelude.{◌≡◌, ◌+◌, ◌≤◌, ◌++◌, length, OnOk};
+ghost use Rattle.std.specs.Prelude.{◌≡◌, ◌+◌, ◌≤◌, ◌++◌, OnOk};
 ghost use Rattle.pascal_semantics.specs.Charge.{program_charge, charges_of};
+ghost use Rattle.pascal_semantics.specs.Valid.{code_room};
 ghost use Rattle.dice_session.specs.World.{line, loaded_reply, written_part};
 ghost use Rattle.dice_session.specs.Places.{ending_told};
 
 use crate::place::name_at;
 use dice_base::{NoMemory, Text, push_decimal};
-use pascal_semantics::SimpleForm;
+use pascal_semantics::Statement;
 use std::alloc::Global;
 use target_monitor::GoEnd;
 
@@ -14,15 +15,14 @@ use target_monitor::GoEnd;
 pub(crate) fn push_loaded(
     alloc: Global,
     out: &mut Text,
-    forms: &[SimpleForm],
+    statements: &[Statement],
     words: usize,
 ) -> Result<(), NoMemory>
-    requires long { words ≡ program_charge + charges_of forms.now }
-    requires few { length forms.now ≤ 100 }
-    ensures { OnOk result (out.new ≡ out.old ++ loaded_reply forms.now) }
+    requires { words ≡ program_charge + charges_of statements.now }
+    ensures { OnOk result (out.new ≡ out.old ++ loaded_reply statements.now) }
 {
     out.append(alloc, b"loaded ")?;
-    push_decimal(alloc, out, 1 + forms.len() as u64)?;
+    push_decimal(alloc, out, 1 + statements.len() as u64)?;
     out.append(alloc, b" blocks ")?;
     push_decimal(alloc, out, words as u64)?;
     out.append(alloc, b" words\n")
@@ -52,17 +52,17 @@ pub(crate) fn push_written(alloc: Global, out: &mut Text, written: &[u8]) -> Res
 pub(crate) fn push_ending(
     alloc: Global,
     out: &mut Text,
-    forms: &[SimpleForm],
+    statements: &[Statement],
     end: GoEnd,
     place: u32,
 ) -> Result<(), NoMemory>
-    requires { length forms.now ≤ 100 }
-    ensures { OnOk result (out.new ≡ out.old ++ ending_told forms.now end place) }
+    requires { program_charge + charges_of statements.now ≤ code_room }
+    ensures { OnOk result (out.new ≡ out.old ++ ending_told statements.now end place) }
 {
     match end {
         GoEnd::Counted | GoEnd::AtBreak => {
             out.append(alloc, b"stopped at ")?;
-            push_decimal(alloc, out, name_at(forms, place) as u64)?;
+            push_decimal(alloc, out, name_at(statements, place) as u64)?;
             out.append(alloc, b"\n")
         }
         GoEnd::Ended => out.append(alloc, b"ended\n"),
@@ -70,7 +70,11 @@ pub(crate) fn push_ending(
             out.append(alloc, b"error ")?;
             push_decimal(alloc, out, error as u64)?;
             out.append(alloc, b" at ")?;
-            push_decimal(alloc, out, name_at(forms, place.saturating_sub(1)) as u64)?;
+            push_decimal(
+                alloc,
+                out,
+                name_at(statements, place.saturating_sub(1)) as u64,
+            )?;
             out.append(alloc, b"\n")
         }
         GoEnd::MustDrain | GoEnd::Overrun | GoEnd::Bus | GoEnd::ConsoleFull => Ok(()),

@@ -1,15 +1,16 @@
 //! Running the program.
 ghost use Rattle.std.specs.Prelude.{◌≡◌, ◌≤◌, ◌++◌, [], IfOk, OnOk, OnErr};
 ghost use Rattle.pascal_semantics.specs.State.{State};
+ghost use Rattle.pascal_semantics.specs.Valid.{IsProgram};
 ghost use Rattle.target_monitor.specs.Go.{gone};
 ghost use Rattle.dice_session.specs.World.{written_part};
 ghost use Rattle.dice_session.specs.Places.{ending_told};
-ghost use Rattle.dice_session.specs.Simulates.{IsProgram, CanRunFrom, Ran};
+ghost use Rattle.dice_session.specs.Simulates.{CanRunFrom, Ran};
 
 use crate::reply::{push_ending, push_written};
 use console_service::Console;
 use dice_base::{NoMemory, Text};
-use pascal_semantics::SimpleForm;
+use pascal_semantics::Statement;
 use pdp11_machine::Machine;
 use std::alloc::Global;
 use target_monitor::go;
@@ -21,21 +22,21 @@ const CONSOLE_ROOM: u32 = 65_536;
 /// goes behind `out`.
 pub fn run(
     alloc: Global,
-    forms: &[SimpleForm],
+    statements: &[Statement],
     gates: u32,
     machine: &mut Machine,
     console: &mut Console,
     out: &mut Text,
 ) -> Result<(), NoMemory>
-    requires program { IsProgram forms.now }
+    requires program { IsProgram statements.now }
     requires some { 1 ≤ gates }
-    ensures { OnOk result ((s : State) → CanRunFrom forms.now s machine.old console.old → Ran forms.now gates s out.old out.new machine.new console.new) }
+    ensures { OnOk result ((s : State) → CanRunFrom statements.now s machine.old console.old → Ran statements.now gates s out.old out.new machine.new console.new) }
 {
     let went = go(machine, console, gates);
     let place = (machine.register(7) / 2) as u32;
     let written = drained(alloc, console)?;
     push_written(alloc, out, &written)?;
-    push_ending(alloc, out, forms, went.end, place)
+    push_ending(alloc, out, statements, went.end, place)
 }
 
 // All that was written, which the console then no longer holds.

@@ -9,7 +9,7 @@ use Rattle.pascal_semantics.specs.declared.form.Operand.{Operand}
 use Rattle.pascal_semantics.specs.declared.form.Operand.TheVariants.{Global, Number}
 use Rattle.pascal_semantics.specs.declared.form.Sum.{Sum}
 use Rattle.pascal_semantics.specs.declared.form.SimpleForm.{SimpleForm}
-use Rattle.pascal_semantics.specs.declared.form.SimpleForm.TheVariants.{Assign, WriteLine}
+use Rattle.pascal_semantics.specs.declared.form.SimpleForm.TheVariants.{Assign, WriteLine, Empty}
 use Rattle.simple_script.specs.Program.{operand_token, second_tokens, sum_tokens, width_tokens, form_tokens, more_forms, form_list, OperandWithin, SumWithin, FormWithin, AllDifferent, IsFree}
 use Rattle.simple_script.specs.Reading as r
 use Rattle.simple_script.specs.Reading.{Toks, Outcome, Reader, and_then, ◌>>=◌, ◌>>◌, known, up_to, wide, sees_sign, sees_number, next, number_in, form_rest}
@@ -242,6 +242,7 @@ form-takes vs (WriteLine value width) rest d free h see =
     step r.ident (form_rest vs) _ _ _ (ident-takes (codes "writeln") (Sign 9 ∷ ((sum_tokens vs value ++ (width_tokens width ++ Sign 10 ∷ [])) ++ rest)))
     ∙ ap (λ us. r.write_rest vs (Sign 9 ∷ us)) (write_text vs value width rest)
     ∙ write-takes vs value width rest d h.0 h.1
+form-takes vs Empty rest d free h see = absurd h
 
 -- ---- lists of statements
 

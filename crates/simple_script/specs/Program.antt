@@ -9,7 +9,7 @@ use Rattle.pascal_semantics.specs.declared.form.Operand.{Operand}
 use Rattle.pascal_semantics.specs.declared.form.Operand.TheVariants.{Global, Number}
 use Rattle.pascal_semantics.specs.declared.form.Sum.{Sum}
 use Rattle.pascal_semantics.specs.declared.form.SimpleForm.{SimpleForm}
-use Rattle.pascal_semantics.specs.declared.form.SimpleForm.TheVariants.{Assign, WriteLine}
+use Rattle.pascal_semantics.specs.declared.form.SimpleForm.TheVariants.{Assign, WriteLine, Empty}
 use Rattle.simple_script.specs.declared.program.SimpleProgram.{SimpleProgram}
 
 -- what a simple program says
@@ -91,6 +91,7 @@ abbrev pub form_tokens : List (List ℕ) → SimpleForm → List TokenKind
 form_tokens variables (Assign n value) = variable variables n ∷ becomes_sign ∷ sum_tokens variables value
 form_tokens variables (WriteLine value width) =
     Ident (codes "writeln") ∷ open_sign ∷ (sum_tokens variables value ++ (width_tokens width ++ close_sign ∷ []))
+form_tokens variables Empty = []
 
 -- statements behind the first, each behind a semicolon
 abbrev pub more_forms : List (List ℕ) → List SimpleForm → List TokenKind
@@ -119,9 +120,11 @@ pub record SumWithin (count : ℕ) (s : Sum) : Type 0 where
   pub one : OperandWithin count s.first
   pub two : IfSome s.second (OperandWithin count)
 
+-- the empty statement is not read yet
 abbrev pub FormWithin : ℕ → SimpleForm → Type 0
 FormWithin count (Assign n value) = (n < count) × SumWithin count value
 FormWithin count (WriteLine value width) = SumWithin count value × IfSome width (λ n. (1 ≤ n) × (n ≤ 255))
+FormWithin count Empty = ⊥
 
 abbrev pub AllDifferent : List (List ℕ) → Type 0
 AllDifferent [] = Unit {0}

@@ -7,7 +7,7 @@ use Rattle.dice_session.proofs.running.run.Goals as goal
 
 pub returns : goal.returns
 returns c =
-    let fs = c.args.forms.now in
+    let fs = c.args.statements.now in
     let bytes = c.deref.ensures.value ∙ c.in_ok-written.ensures.written in
     let written = c.in_ok-push_written.ensures ∙ ap (λ b. c.args.out.now ++ written_part b) bytes in
     from_made _ _ c.push_ending.result c.push_ending.ensures (λ u told s can.
