@@ -4,10 +4,6 @@ use std::test::Fail;
 
 // The program's block is 32 words from word 256 on, its link word the 16th and its end part the 17th, counted from 0.
 
-fn named(name: u32, form: SimpleForm) -> Statement {
-    Statement { name, form }
-}
-
 #[test]
 fn loads_no_statement(rt: HostRuntime) -> Result<(), Fail> {
     let words = load_words(rt.alloc(), &[])?;
@@ -22,7 +18,13 @@ fn loads_one_statement(rt: HostRuntime) -> Result<(), Fail> {
         first: Operand::Number(7),
         second: None,
     };
-    let words = load_words(rt.alloc(), &[named(4, SimpleForm::Assign(0, seven))])?;
+    let words = load_words(
+        rt.alloc(),
+        &[Statement {
+            name: 4,
+            form: SimpleForm::Assign(0, seven),
+        }],
+    )?;
     assert_eq!(rt; words.len(), 68);
     for (at, word) in [
         (16, 576),
@@ -51,10 +53,22 @@ fn loads_statements_in_text_order(rt: HostRuntime) -> Result<(), Fail> {
         second: None,
     };
     let statements = [
-        named(4, SimpleForm::Assign(0, seven)),
-        named(7, SimpleForm::Assign(1, next)),
-        named(5, SimpleForm::WriteLine(last, None)),
-        named(6, SimpleForm::Empty),
+        Statement {
+            name: 4,
+            form: SimpleForm::Assign(0, seven),
+        },
+        Statement {
+            name: 7,
+            form: SimpleForm::Assign(1, next),
+        },
+        Statement {
+            name: 5,
+            form: SimpleForm::WriteLine(last, None),
+        },
+        Statement {
+            name: 6,
+            form: SimpleForm::Empty,
+        },
     ];
     let words = load_words(rt.alloc(), &statements)?;
     assert_eq!(rt; words.len(), 192);

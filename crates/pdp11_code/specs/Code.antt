@@ -1,5 +1,8 @@
 -- How words are read as instructions by the table of src/table.rt: the instruction formats of the PDP-11/40 Processor
--- Handbook, chapters 3 and 4.
+-- Handbook, chapters 3, 4 and 7.
+--
+-- This project's own: all words that stand in no row are reserved, among them JMP and JSR to a register, DIV of an odd
+-- register, and WAIT, RESET, MARK, ASHC and the instructions of memory management and of floating point.
 use Rattle.std.specs.Prelude.{ℕ, option_and_then, ◌+◌, ◌-◌, ◌/◌, ◌%◌, Bool, ◌&&◌, ◌||◌, nat_lt, nat_le, nat_eq, if◌then◌else◌, Option, Some, None, List, [], ◌∷◌, slice_get, find}
 use Rattle.std.specs.Option.{option_map}
 use Rattle.pdp11_code.specs.declared.instr.Ea.{Ea}

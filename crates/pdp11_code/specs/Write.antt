@@ -1,5 +1,5 @@
 -- How instructions are written as words, and which there are: the instruction formats of the PDP-11/40 Processor
--- Handbook, chapters 3 and 4.
+-- Handbook, chapters 3, 4 and 7.
 use Rattle.std.specs.Prelude.{◌≡◌, ℕ, ◌+◌, ◌*◌, ◌<◌, Bool, if◌then◌else◌, Option, Some, None, List, [], ◌∷◌, ◌++◌, is_some}
 use Rattle.pdp11_code.specs.declared.instr.Ea.{Ea}
 use Rattle.pdp11_code.specs.declared.instr.Instr.{Instr}

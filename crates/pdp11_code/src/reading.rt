@@ -1,11 +1,11 @@
 //! Instructions read from words.
 
-ghost use Rattle.std.specs.Prelude.{◌≡◌, ℕ, ◌<◌, ◌≤◌, List, length, take, IfSome};
+ghost use Rattle.std.specs.Prelude.{◌≡◌, ℕ, ◌<◌, ◌≤◌, ◌/◌, List, length, take, IfSome};
 ghost use Rattle.pdp11_code.specs.Code.{shape_at, wants_next, ea_at, read_as, decoded};
 ghost use Rattle.pdp11_code.specs.Write.{IsInstr, encoded};
 
 use crate::instr::{Ea, Instr};
-use crate::table::{ROWS, Shape};
+use crate::table::Shape;
 
 /// The instruction that begins the words, and the number of its words, 1 to 3. None exactly where no instruction
 /// of the table begins there, or its words end early.
@@ -39,12 +39,111 @@ fn instruction(words: &[u16]) -> Option<(Instr, usize)>
     }
 }
 
+// By the digits of the word, so that no instruction searches the table.
 fn shape_of(word: u16) -> Option<Shape>
     ensures { result ≡ shape_at word }
 {
-    ROWS.iter()
-        .find(|row| row.first <= word && word - row.first < row.count)
-        .map(|row| row.shape)
+    match word / 0o10000 {
+        0 => low_shape(word),
+        1..=6 => Some(Shape::DoubleOperand),
+        7 => register_shape(word),
+        8 => high_shape(word),
+        9..=14 => Some(Shape::DoubleOperand),
+        _ => None,
+    }
+}
+
+fn low_shape(word: u16) -> Option<Shape>
+    requires { word < 4096 }
+    ensures { result ≡ shape_at word }
+{
+    match word / 0o100 {
+        0o00 => bare_shape(word),
+        0o01 => if word < 0o110 {
+            None
+        } else {
+            Some(Shape::SingleOperand)
+        },
+        0o02 => return_shape(word),
+        0o03 => Some(Shape::SingleOperand),
+        0o04..=0o37 => Some(Shape::BranchOffset),
+        0o40..=0o47 => call_shape(word),
+        0o50..=0o63 => Some(Shape::SingleOperand),
+        0o67 => Some(Shape::SingleOperand),
+        _ => None,
+    }
+}
+
+fn bare_shape(word: u16) -> Option<Shape>
+    requires { word < 64 }
+    ensures { result ≡ shape_at word }
+{
+    match word {
+        0 => Some(Shape::NoOperand),
+        2..=4 => Some(Shape::NoOperand),
+        6 => Some(Shape::NoOperand),
+        _ => None,
+    }
+}
+
+fn return_shape(word: u16) -> Option<Shape>
+    requires { word / 64 ≡ 2 }
+    ensures { result ≡ shape_at word }
+{
+    match word / 0o10 {
+        0o20 => Some(Shape::ReturnFromSubroutine),
+        0o24..=0o27 => Some(Shape::ConditionCodes),
+        _ => None,
+    }
+}
+
+fn call_shape(word: u16) -> Option<Shape>
+    requires { word / 512 ≡ 4 }
+    ensures { result ≡ shape_at word }
+{
+    if word / 0o10 % 8 == 0 {
+        None
+    } else {
+        Some(Shape::JumpToSubroutine)
+    }
+}
+
+fn register_shape(word: u16) -> Option<Shape>
+    requires { word / 4096 ≡ 7 }
+    ensures { result ≡ shape_at word }
+{
+    match word / 0o1000 {
+        0o70 => Some(Shape::RegisterOperand),
+        0o71 => division_shape(word),
+        0o72 => Some(Shape::RegisterOperand),
+        0o74 => Some(Shape::RegisterOperand),
+        0o77 => Some(Shape::SubtractOneAndBranch),
+        _ => None,
+    }
+}
+
+fn division_shape(word: u16) -> Option<Shape>
+    requires { word / 512 ≡ 57 }
+    ensures { result ≡ shape_at word }
+{
+    if word / 0o100 % 2 == 0 {
+        Some(Shape::RegisterOperand)
+    } else {
+        None
+    }
+}
+
+fn high_shape(word: u16) -> Option<Shape>
+    requires { word / 4096 ≡ 8 }
+    ensures { result ≡ shape_at word }
+{
+    match word / 0o400 {
+        0o200..=0o207 => Some(Shape::BranchOffset),
+        0o210 => Some(Shape::EmulatorTrap),
+        0o211 => Some(Shape::ProgramTrap),
+        0o212..=0o214 => Some(Shape::SingleOperand),
+        _ => None,
+    }
 }
 
 fn takes_next(mode: u8, register: u8) -> bool

@@ -1,5 +1,7 @@
--- The instructions of two operands: PDP-11/40 Processor Handbook, chapter 4. The source is fetched before the
--- destination's address is worked out. At a bus trap the flags stay.
+-- The instructions of two operands: PDP-11/40 Processor Handbook, chapter 4, double operand instructions.
+--
+-- This project's own: the source is fetched before the destination's address is worked out, also where it is a
+-- register that the destination's mode steps. At a bus trap the flags stay.
 use Rattle.std.specs.Prelude.{ℕ, ◌+◌, ◌-◌, ◌%◌, Bool, true, false, ◌&&◌, nat_lt, nat_le, nat_eq, if◌then◌else◌, Option, Some, bit_and, bit_or}
 use Rattle.pdp11_code.specs.declared.instr.Ea.{Ea}
 use Rattle.pdp11_machine.specs.declared.Place.{Place}

@@ -1,5 +1,8 @@
--- The instructions of a register and an operand: PDP-11/40 Processor Handbook, chapter 4, extended instruction set, and
--- XOR. The register is taken after the operand's address is worked out, but that of XOR, its source, before.
+-- The instructions of a register and an operand: PDP-11/40 Processor Handbook, chapter 7, extended instruction set, and
+-- XOR of chapter 4.
+--
+-- This project's own: all flags of MUL, DIV and ASH; a pair that stays where it cannot be divided; and the register,
+-- which is taken after the operand's address is worked out, but that of XOR, its source, before.
 use Rattle.std.specs.Prelude.{ℕ, ◌+◌, ◌-◌, ◌*◌, ◌/◌, ◌%◌, ◌^◌, Bool, true, false, nat_lt, nat_le, nat_eq, if◌then◌else◌, Option, Some, None, bit_xor}
 use Rattle.pdp11_code.specs.declared.instr.Ea.{Ea}
 use Rattle.pdp11_machine.specs.State.{State, Flags, reg, with_reg, differs}

@@ -1,5 +1,8 @@
--- Where operands stand: the addressing modes of the PDP-11/40 Processor Handbook, chapter 3. A register change stands
--- once it is made, also where a bus trap comes after it.
+-- Where operands stand: the addressing modes of the PDP-11/40 Processor Handbook, chapter 3.
+--
+-- This project's own, where the handbook leaves it open: the words of operands are fetched one by one, each when its
+-- operand's address is worked out, and PC steps once its word was fetched; a register change stands once it is made,
+-- also where a bus trap comes after it.
 use Rattle.std.specs.Prelude.{ℕ, ◌+◌, ◌-◌, ◌*◌, ◌/◌, ◌%◌, ◌<◌, Bool, ◌&&◌, nat_lt, nat_le, nat_eq, if◌then◌else◌, Option, Some, None, slice_index}
 use Rattle.pdp11_machine.specs.declared.Place.{Place}
 use Rattle.pdp11_machine.specs.declared.Place.TheVariants.{Register, Cell}
@@ -87,6 +90,6 @@ loaded_by byte s p = if byte then loaded_byte s p else loaded s p
 abbrev pub stored_by : Bool → State → Place → ℕ → State × Option Unit
 stored_by byte s p value = if byte then stored_byte s p value else stored s p value
 
--- the flags are set once a store was not stopped by a bus trap
+-- the flags are set once a store was not stopped by a bus trap (this project's own: at a bus trap they stay)
 abbrev pub with_flags : Flags → State × Option Unit → State × Option Unit
 with_flags f p = and_then p (λ s _. (record s { flags = f }, Some tt))

@@ -1,5 +1,6 @@
 -- What the instructions of one operand make of its value, a byte or a word, at the carry as it stands: PDP-11/40
--- Processor Handbook, chapter 4. N and Z are by the new value.
+-- Processor Handbook, chapter 4, single operand instructions. N and Z are by the new value. This project's own: C of SBC
+-- is the borrow.
 use Rattle.std.specs.Prelude.{ℕ, ◌+◌, ◌-◌, ◌*◌, ◌/◌, ◌%◌, Bool, true, false, ◌&&◌, nat_le, nat_eq, if◌then◌else◌}
 use Rattle.pdp11_machine.specs.declared.outcome.Outcome.{Outcome}
 use Rattle.pdp11_machine.specs.State.{not, differs, bit_of}

@@ -1,4 +1,7 @@
--- The instructions of one operand: PDP-11/40 Processor Handbook, chapter 4. At a bus trap the flags stay.
+-- The instructions of one operand: PDP-11/40 Processor Handbook, chapter 4, single operand instructions, and JMP.
+--
+-- This project's own: V of SWAB and of SXT is 0; by mode 2 JMP goes to the register as it was before its step. At a bus
+-- trap the flags stay.
 use Rattle.std.specs.Prelude.{ℕ, ◌+◌, ◌*◌, ◌/◌, ◌%◌, Bool, true, false, nat_eq, if◌then◌else◌, Option, Some}
 use Rattle.pdp11_code.specs.declared.instr.Ea.{Ea}
 use Rattle.pdp11_machine.specs.declared.outcome.Outcome.{Outcome}
@@ -7,7 +10,7 @@ use Rattle.pdp11_machine.specs.Operands.{and_then, addressed, placed, loaded, lo
 use Rattle.pdp11_machine.specs.Words.{flags_of, flags_by}
 use Rattle.pdp11_machine.specs.Outcome.{outcome_of}
 
--- JMP: PC goes to the operand's address
+-- JMP: PC goes to the operand's address, which may be odd
 abbrev pub jumped : Ea → State → State × Option Unit
 jumped target s = and_then (addressed false target.mode target.register s) (λ t a. (with_reg t 7 a, Some tt))
 

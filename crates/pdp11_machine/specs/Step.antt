@@ -1,5 +1,9 @@
 -- One step of the machine. The vectors of the traps are in decimal: 4 odd address or none there, 8 reserved
 -- instruction, 12 BPT, 16 IOT, 24 EMT, 28 TRAP (PDP-11/40 Processor Handbook, chapter 2 and appendix).
+--
+-- This project's own: a step tells a trap and leaves it to the caller to take it; the words behind the first are not
+-- looked at before they are fetched as operands, so that one that is not there is a bus trap; which words are reserved is
+-- said by the table of pdp11_code.
 use Rattle.std.specs.Prelude.{ℕ, nat_eq, if◌then◌else◌, Option, Some, None, [], ◌∷◌}
 use Rattle.pdp11_code.specs.declared.instr.Instr.{Instr}
 use Rattle.pdp11_code.specs.declared.instr.Instr.TheVariants.{Two, Extended, One, Jsr, Rts, Sob, Branch, Emt, Trap as TrapInstr, Flags as FlagsInstr, Bare}

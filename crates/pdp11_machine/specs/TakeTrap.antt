@@ -1,4 +1,5 @@
--- Traps: PDP-11/40 Processor Handbook, chapter 2, processor traps.
+-- Traps: PDP-11/40 Processor Handbook, chapter 2, processor traps. This project's own: a trap whose words cannot be
+-- reached is not taken and changes nothing.
 use Rattle.std.specs.Prelude.{ℕ, ◌+◌, ◌/◌, ◌%◌, Bool, true, false, ◌&&◌, if◌then◌else◌, slice_index}
 use Rattle.pdp11_machine.specs.State.{State, reg, with_reg, is_place, with_word, status_of, with_status}
 
