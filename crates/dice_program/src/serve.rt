@@ -96,6 +96,7 @@ fn answer_line<K: Sink>(
     machine: &mut Machine,
     sink: &mut K,
 ) -> Result<(), Fault>
+    requires lives { (w : World) × Lives w session.old machine.old }
     ensures answers { (w : World) (l : List ℕ) → Lives w session.old machine.old → SameFront l line.now
         → Answers result w l session.new machine.new (K.held sink.old) (K.held sink.new) }
     ensures later { K.faults sink.old ≤ K.faults sink.new }
@@ -116,6 +117,7 @@ fn answer_last<K: Sink>(
     machine: &mut Machine,
     sink: &mut K,
 ) -> Result<(), Fault>
+    requires lives { (w : World) × Lives w session.old machine.old }
     ensures answers { (w : World) (l : List ℕ) → Lives w session.old machine.old → line.now ≡ take kept_bytes l
         → AnswersSome result w (some_line l) session.new machine.new (K.held sink.old) (K.held sink.new) }
     ensures later { K.faults sink.old ≤ K.faults sink.new }
@@ -135,6 +137,7 @@ fn answer_end<K: Sink>(
     machine: &mut Machine,
     sink: &mut K,
 ) -> Result<(), Fault>
+    requires lives { (w : World) × Lives w session.old machine.old }
     ensures answers { (w : World) → Lives w session.old machine.old
         → AnswersSome result w (missing_end w.mode) session.new machine.new (K.held sink.old) (K.held sink.new) }
     ensures later { K.faults sink.old ≤ K.faults sink.new }
@@ -157,6 +160,7 @@ fn take_turn<S: Source, K: Sink>(
     sink: &mut K,
     machine: &mut Machine,
 ) -> Result<Turn, Fault>
+    requires lives { (w : World) × Lives w session.old machine.old }
     ensures turns { (w : World) → Lives w session.old machine.old
         → Turns result line.new.items w session.new machine.new room.old room.new (S.left source.old) (S.left source.new) (K.held sink.old) (K.held sink.new) }
     ensures source { S.faults source.old ≤ S.faults source.new }
@@ -167,7 +171,11 @@ fn take_turn<S: Source, K: Sink>(
     match next_line(source, line, room)? {
         Got::Whole => {
             answer_line(alloc, session, stripped(line), machine, sink)?;
-            Ok(if session.is_over() { Turn::Quit } else { Turn::On })
+            Ok(if session.is_over() {
+                Turn::Quit
+            } else {
+                Turn::On
+            })
         }
         Got::Last => {
             answer_last(alloc, session, line, machine, sink)?;
@@ -188,7 +196,11 @@ fn final_turn<S: Source>(
     ensures cause { IsErrOf result LineFault.SourceFailed → Rose (S.faults source.old) (S.faults source.new) }
 {
     match next_line(source, line, room)? {
-        Got::Last => Ok(if line.as_slice().is_empty() { Ending::Done } else { Ending::TooMany }),
+        Got::Last => Ok(if line.as_slice().is_empty() {
+            Ending::Done
+        } else {
+            Ending::TooMany
+        }),
         Got::Whole => Ok(Ending::TooMany),
         Got::TooFar => Ok(Ending::TooMany),
     }
@@ -212,7 +224,15 @@ pub(crate) fn serve_script<S: Source, K: Sink>(
     let mut line = Vec::new(alloc);
     let mut room = MAX_BYTES;
     for _turn in 1..MAX_LINES {
-        match take_turn(alloc, &mut session, &mut line, &mut room, source, sink, machine)? {
+        match take_turn(
+            alloc,
+            &mut session,
+            &mut line,
+            &mut room,
+            source,
+            sink,
+            machine,
+        )? {
             Turn::On => {}
             Turn::Quit => return Ok(Ending::Done),
             Turn::Last => {
