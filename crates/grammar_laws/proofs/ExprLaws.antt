@@ -73,6 +73,9 @@ module _ {A : Type 0} (c : ℕ) (real : eqb 11 c ≡ false) (p : Parser A) (g : 
 abbrev pub AccessEnds : ℕ → Type 0
 AccessEnds c = IsNot left_sign c × IsNot period_sign c × IsNot arrow_sign c
 
+pub access_starts : (E : Form Expr) (a : Access) (w : Unit {0}) (u rest : Toks) → access_form E a w u → class_at (u ++ rest) ≡ ident_class
+access_starts E a w u rest (x, v, y, z, e, g, h) = rw (e, g) refl
+
 pub first_class : {A : Type 0} (c : ℕ) (g : Form A) (a : A) (u rest : Toks) → token c g a tt u → class_at (u ++ rest) ≡ c
 first_class c g a u rest (t, v, e, is, h) = rw (e, is) refl
 
@@ -89,13 +92,14 @@ module _ (inner : r.Inner) (E : Form Expr) (FE : ℕ → Type 0) (expr_rule : Ru
   part_item =
       item_on left_sign refl (r.index inner) (index_form E) Any _ index_rule _ _
       (item_on period_sign refl (ident >>= (λ x. pure (part.Field x))) field_form Any _ (seq (ident_rule FA) (λ x w. give (part.Field x) tt FA) (λ x w a v y rest h f. tt)) _ _
-        (item_on arrow_sign refl (pure part.Dereference) deref_form Any _ (give part.Dereference tt FA) _ _ (no_item Any) tt (λ a u rest no. absurd no))
-        tt (λ a u rest x. not_dot a u rest x))
+      (item_on arrow_sign refl (pure part.Dereference) deref_form Any _ (give part.Dereference tt FA) _ _ (no_item Any) tt (λ a u rest no. absurd no))
+      tt (λ a u rest x. not_dot a u rest x))
       tt (λ a u rest x. not_left a u rest x)
     where
       not_dot : (a : AccessPart) (u rest : Toks) → (token arrow_sign deref_form a tt u ⊎ ⊥) → eqb (class_at (u ++ rest)) period_sign ≡ false
       not_dot a u rest (inl x) = rw (first_class arrow_sign deref_form a u rest x) refl
       not_dot a u rest (inr x) = absurd x
+
       not_left : (a : AccessPart) (u rest : Toks) → (token period_sign field_form a tt u ⊎ (token arrow_sign deref_form a tt u ⊎ ⊥)) → eqb (class_at (u ++ rest)) left_sign ≡ false
       not_left a u rest (inl x) = rw (first_class period_sign field_form a u rest x) refl
       not_left a u rest (inr (inl x)) = rw (first_class arrow_sign deref_form a u rest x) refl

@@ -28,7 +28,7 @@ unfolding read.var_decl
 var_rule =
     seq (list_rule comma_sign refl ident named Any (ident_rule FA) tt)
     (λ xs _. expect_rule colon_sign refl _ _ Plain FA
-      (seq (ident_rule FA) (λ x _. expect_rule semicolon_sign refl _ _ Plain FA (give (make_var xs x) tt FA)) (λ x w b v y rest h f. tt)))
+    (seq (ident_rule FA) (λ x _. expect_rule semicolon_sign refl _ _ Plain FA (give (make_var xs x) tt FA)) (λ x w b v y rest h f. tt)))
     (λ xs w b v y rest (t, z, e, is, h) f. rw (e, is) (tt, (refl, tt)))
 
 var_starts : (d : Decl) (u rest : Toks) → var_form d tt u → eqb (class_at (u ++ rest)) ident_class ≡ true
@@ -75,9 +75,9 @@ module _ (stmt : Parser Stmt) (S : Form Stmt) (compounds : Rule Any (compound st
   program_step =
       expect_rule program_word refl _ _ Plain FA
       (seq (ident_rule FA)
-        (λ x _. expect_rule semicolon_sign refl _ _ Plain FA
-          (seq block_rule (λ b _. expect_rule period_sign refl _ _ Plain FA (give (make_program x b) tt FA)) (λ b w a v y rest h f. tt)))
-        (λ x w a v y rest h f. tt))
+      (λ x _. expect_rule semicolon_sign refl _ _ Plain FA
+      (seq block_rule (λ b _. expect_rule period_sign refl _ _ Plain FA (give (make_program x b) tt FA)) (λ b w a v y rest h f. tt)))
+      (λ x w a v y rest h f. tt))
 
 program_rule : Rule Any (read.program (stmt_in 62)) (program_form (stmt_at 62)) Plain FA
 program_rule = program_step (stmt_in 62) (stmt_at 62) (compound_rule (stmt_in 62) (stmt_at 62) (stmt_rules 62))

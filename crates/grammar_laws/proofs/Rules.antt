@@ -57,27 +57,27 @@ module _ {A W B V : Type 0} (P : ℕ → Type 0) (p : Parser A) (g : A → W →
     (first : Rule P p g E G)
     (rest_rule : (a : A) (w : W) → Rule (E w) (k a) (h a w) D F)
     (follows : (a : A) (w : W) (b : B) (v : V) (y rest : Toks) → h a w b v y → F v (class_at rest) → G w (class_at (y ++ rest)))
-    where
-  chain_reads : (ts : Toks) (b : B) (rest : Toks) → P (class_at ts) → (p >>= k) ts ≡ ok b rest → Found (chain g h) D b ts rest
-  chain_reads ts b rest pre e =
-      let s = bind_ok (p ts) k b rest e in
-      let x = first.reads ts s.0 s.1 pre s.2 in
-      let y = (rest_rule s.0 x.flag).reads s.1 b rest x.ends s.3 in
-      record {
-        flag = y.flag;
-        text = x.text ++ y.text;
-        parts = x.parts ∙ ap (λ (t : Toks). x.text ++ t) y.parts ∙ sym (append_assoc x.text y.text rest);
-        form = (s.0, x.flag, x.text, y.text, refl, x.form, y.form);
-        ends = y.ends;
-      }
+  where
+    chain_reads : (ts : Toks) (b : B) (rest : Toks) → P (class_at ts) → (p >>= k) ts ≡ ok b rest → Found (chain g h) D b ts rest
+    chain_reads ts b rest pre e =
+        let s = bind_ok (p ts) k b rest e in
+        let x = first.reads ts s.0 s.1 pre s.2 in
+        let y = (rest_rule s.0 x.flag).reads s.1 b rest x.ends s.3 in
+        record {
+          flag = y.flag;
+          text = x.text ++ y.text;
+          parts = x.parts ∙ ap (λ (t : Toks). x.text ++ t) y.parts ∙ sym (append_assoc x.text y.text rest);
+          form = (s.0, x.flag, x.text, y.text, refl, x.form, y.form);
+          ends = y.ends;
+        }
 
-  chain_takes : (b : B) (v : V) (u rest : Toks) → chain g h b v u → F v (class_at rest) → (p >>= k) (u ++ rest) ≡ ok b rest
-  chain_takes b v u rest (a, w, x, y, e, gx, hy) f =
-      let one : p (x ++ (y ++ rest)) ≡ ok a (y ++ rest) = first.takes a w x (y ++ rest) gx (follows a w b v y rest hy f) in
-      rw (e, append_assoc x y rest, one) ((rest_rule a w).takes b v y rest hy f)
+    chain_takes : (b : B) (v : V) (u rest : Toks) → chain g h b v u → F v (class_at rest) → (p >>= k) (u ++ rest) ≡ ok b rest
+    chain_takes b v u rest (a, w, x, y, e, gx, hy) f =
+        let one : p (x ++ (y ++ rest)) ≡ ok a (y ++ rest) = first.takes a w x (y ++ rest) gx (follows a w b v y rest hy f) in
+        rw (e, append_assoc x y rest, one) ((rest_rule a w).takes b v y rest hy f)
 
-  pub chain_rule : Rule P (p >>= k) (chain g h) D F
-  chain_rule = record { reads = chain_reads; takes = chain_takes }
+    pub chain_rule : Rule P (p >>= k) (chain g h) D F
+    chain_rule = record { reads = chain_reads; takes = chain_takes }
 
 -- ---- a token
 
@@ -147,29 +147,29 @@ module _ {A W : Type 0} (c : ℕ) (P : ℕ → Type 0) (p q : Parser A) (g h : A
     (no_rule : Rule (λ k. P k × IsNot c k) q h D F)
     (yes_starts : (a : A) (w : W) (u rest : Toks) → g a w u → F w (class_at rest) → eqb (class_at (u ++ rest)) c ≡ true)
     (no_starts : (a : A) (w : W) (u rest : Toks) → h a w u → F w (class_at rest) → eqb (class_at (u ++ rest)) c ≡ false)
-    where
-  abbrev choice : Parser A
-  choice = λ ts. if class_at ts == c then p ts else q ts
+  where
+    abbrev choice : Parser A
+    choice = λ ts. if class_at ts == c then p ts else q ts
 
-  left : (a : A) (ts rest : Toks) → Found g D a ts rest → Found (either g h) D a ts rest
-  left a ts rest x = record { flag = x.flag; text = x.text; parts = x.parts; form = inl x.form; ends = x.ends }
+    left : (a : A) (ts rest : Toks) → Found g D a ts rest → Found (either g h) D a ts rest
+    left a ts rest x = record { flag = x.flag; text = x.text; parts = x.parts; form = inl x.form; ends = x.ends }
 
-  right : (a : A) (ts rest : Toks) → Found h D a ts rest → Found (either g h) D a ts rest
-  right a ts rest x = record { flag = x.flag; text = x.text; parts = x.parts; form = inr x.form; ends = x.ends }
+    right : (a : A) (ts rest : Toks) → Found h D a ts rest → Found (either g h) D a ts rest
+    right a ts rest x = record { flag = x.flag; text = x.text; parts = x.parts; form = inr x.form; ends = x.ends }
 
-  choice_reads : (ts : Toks) (a : A) (rest : Toks) → P (class_at ts) → choice ts ≡ ok a rest → Found (either g h) D a ts rest
-  choice_reads ts a rest pre e =
-      elim (cases_Bool (eqb (class_at ts) c)) [
-        | inl is ↦ left a ts rest (yes_rule.reads ts a rest (pre, is) (subst (λ (b : Bool). cond b (p ts) (q ts) ≡ ok a rest) is e))
-        | inr isnt ↦ right a ts rest (no_rule.reads ts a rest (pre, isnt) (subst (λ (b : Bool). cond b (p ts) (q ts) ≡ ok a rest) isnt e))
-      ]
+    choice_reads : (ts : Toks) (a : A) (rest : Toks) → P (class_at ts) → choice ts ≡ ok a rest → Found (either g h) D a ts rest
+    choice_reads ts a rest pre e =
+        elim (cases_Bool (eqb (class_at ts) c)) [
+          | inl is ↦ left a ts rest (yes_rule.reads ts a rest (pre, is) (subst (λ (b : Bool). cond b (p ts) (q ts) ≡ ok a rest) is e))
+          | inr isnt ↦ right a ts rest (no_rule.reads ts a rest (pre, isnt) (subst (λ (b : Bool). cond b (p ts) (q ts) ≡ ok a rest) isnt e))
+        ]
 
-  choice_takes : (a : A) (w : W) (u rest : Toks) → either g h a w u → F w (class_at rest) → choice (u ++ rest) ≡ ok a rest
-  choice_takes a w u rest (inl x) f = rw (yes_starts a w u rest x f) (yes_rule.takes a w u rest x f)
-  choice_takes a w u rest (inr x) f = rw (no_starts a w u rest x f) (no_rule.takes a w u rest x f)
+    choice_takes : (a : A) (w : W) (u rest : Toks) → either g h a w u → F w (class_at rest) → choice (u ++ rest) ≡ ok a rest
+    choice_takes a w u rest (inl x) f = rw (yes_starts a w u rest x f) (yes_rule.takes a w u rest x f)
+    choice_takes a w u rest (inr x) f = rw (no_starts a w u rest x f) (no_rule.takes a w u rest x f)
 
-  pub choice_rule : Rule P choice (either g h) D F
-  choice_rule = record { reads = choice_reads; takes = choice_takes }
+    pub choice_rule : Rule P choice (either g h) D F
+    choice_rule = record { reads = choice_reads; takes = choice_takes }
 
 -- ---- items in a row
 
@@ -240,61 +240,61 @@ module _ {O B A : Type 0} (op : ℕ → Option O) (make : O → B → A) (q : Pa
     (real : op 11 ≡ None)
     (inner : Rule Any q (λ b (w : Unit {0}) u. g b u) (λ _ _. Unit {0}) (λ _ c. F c))
     (apart : (c : ℕ) (o : O) → op c ≡ Some o → F c)
-    where
-  abbrev some : {X : Type 0} → X → Option X
-  some x = Some x
+  where
+    abbrev some : {X : Type 0} → X → Option X
+    some x = Some x
 
-  abbrev none : Option A
-  none = None
+    abbrev none : Option A
+    none = None
 
-  op_some : (t : TokenKind) (v : Toks) (o : Option O) (a : A) (rest : Toks) → op (class_of t) ≡ o → after_op make q o (t ∷ v) ≡ ok (some a) rest
-      → (u : Toks) × (t ∷ v ≡ u ++ rest) × behind_op op make g a u
-  unfolding next
-  op_some t v None a rest is e = let no : none ≡ some a = ok_value _ _ _ _ e in absurd cc
-  op_some t v (Some o) a rest is e =
-      let s = bind_ok (q v) (λ x. pure (some (make o x))) (some a) rest e in
-      let x = inner.reads v s.0 s.1 tt s.2 in
-      let same : some (make o s.0) ≡ some a = ok_value _ _ _ _ s.3 in
-      let made : a ≡ make o s.0 = cc in
-      (t ∷ x.text, ap (λ (r : Toks). t ∷ r) x.parts ∙ ap (λ (r : Toks). t ∷ (x.text ++ r)) (ok_rest _ _ _ _ s.3), (o, s.0, t, x.text, refl, is, x.form, made))
+    op_some : (t : TokenKind) (v : Toks) (o : Option O) (a : A) (rest : Toks) → op (class_of t) ≡ o → after_op make q o (t ∷ v) ≡ ok (some a) rest
+        → (u : Toks) × (t ∷ v ≡ u ++ rest) × behind_op op make g a u
+    unfolding next
+    op_some t v None a rest is e = let no : none ≡ some a = ok_value _ _ _ _ e in absurd cc
+    op_some t v (Some o) a rest is e =
+        let s = bind_ok (q v) (λ x. pure (some (make o x))) (some a) rest e in
+        let x = inner.reads v s.0 s.1 tt s.2 in
+        let same : some (make o s.0) ≡ some a = ok_value _ _ _ _ s.3 in
+        let made : a ≡ make o s.0 = cc in
+        (t ∷ x.text, ap (λ (r : Toks). t ∷ r) x.parts ∙ ap (λ (r : Toks). t ∷ (x.text ++ r)) (ok_rest _ _ _ _ s.3), (o, s.0, t, x.text, refl, is, x.form, made))
 
-  op_none : (ts : Toks) (o : Option O) (rest : Toks) → after_op make q o ts ≡ ok None rest → ts ≡ rest
-  op_none ts None rest e = ok_rest _ _ _ _ e
-  op_none ts (Some o) rest e =
-      let s = bind_ok (q (next ts)) (λ x. pure (some (make o x))) None rest e in
-      let no : some (make o s.0) ≡ None = ok_value _ _ _ _ s.3 in
-      absurd cc
+    op_none : (ts : Toks) (o : Option O) (rest : Toks) → after_op make q o ts ≡ ok None rest → ts ≡ rest
+    op_none ts None rest e = ok_rest _ _ _ _ e
+    op_none ts (Some o) rest e =
+        let s = bind_ok (q (next ts)) (λ x. pure (some (make o x))) None rest e in
+        let no : some (make o s.0) ≡ None = ok_value _ _ _ _ s.3 in
+        absurd cc
 
-  op_reads : (ts : Toks) (a : A) (rest : Toks) → after_op make q (op (class_at ts)) ts ≡ ok (some a) rest → (u : Toks) × (ts ≡ u ++ rest) × behind_op op make g a u
-  op_reads [] a rest e = absurd (never (subst (λ (o : Option O). after_op make q o [] ≡ ok (some a) rest) real e)) where
-    never : after_op make q None [] ≡ ok (some a) rest → ⊥
-    never e = let no : none ≡ some a = ok_value _ _ _ _ e in absurd cc
-  op_reads (t ∷ ts) a rest e = op_some t ts (op (class_of t)) a rest refl e
+    op_reads : (ts : Toks) (a : A) (rest : Toks) → after_op make q (op (class_at ts)) ts ≡ ok (some a) rest → (u : Toks) × (ts ≡ u ++ rest) × behind_op op make g a u
+    op_reads [] a rest e = absurd (never (subst (λ (o : Option O). after_op make q o [] ≡ ok (some a) rest) real e)) where
+      never : after_op make q None [] ≡ ok (some a) rest → ⊥
+      never e = let no : none ≡ some a = ok_value _ _ _ _ e in absurd cc
+    op_reads (t ∷ ts) a rest e = op_some t ts (op (class_of t)) a rest refl e
 
-  op_takes : (a : A) (u rest : Toks) → behind_op op make g a u → F (class_at rest) → prefixed op make q (u ++ rest) ≡ ok (some a) rest
-  unfolding prefixed next
-  op_takes a u rest (o, b, t, v, e, is, gb, made) f = rw (e, is, inner.takes b tt v rest gb f, made) refl
+    op_takes : (a : A) (u rest : Toks) → behind_op op make g a u → F (class_at rest) → prefixed op make q (u ++ rest) ≡ ok (some a) rest
+    unfolding prefixed next
+    op_takes a u rest (o, b, t, v, e, is, gb, made) f = rw (e, is, inner.takes b tt v rest gb f, made) refl
 
-  op_stops : (ts : Toks) → op (class_at ts) ≡ None → prefixed op make q ts ≡ ok None ts
-  unfolding prefixed
-  op_stops ts none = rw none refl
+    op_stops : (ts : Toks) → op (class_at ts) ≡ None → prefixed op make q ts ≡ ok None ts
+    unfolding prefixed
+    op_stops ts none = rw none refl
 
-  op_again : (a : A) (u rest : Toks) → behind_op op make g a u → F (class_at (u ++ rest))
-  op_again a u rest (o, b, t, v, e, is, gb, made) = rw e (apart (class_of t) o is)
+    op_again : (a : A) (u rest : Toks) → behind_op op make g a u → F (class_at (u ++ rest))
+    op_again a u rest (o, b, t, v, e, is, gb, made) = rw e (apart (class_of t) o is)
 
-  op_longer : (a : A) (u : Toks) → behind_op op make g a u → 1 ≤ length u
-  op_longer a u (o, b, t, v, e, is, gb, made) = rw e (omega arith)
+    op_longer : (a : A) (u : Toks) → behind_op op make g a u → 1 ≤ length u
+    op_longer a u (o, b, t, v, e, is, gb, made) = rw e (omega arith)
 
-  pub op_item : Item (prefixed op make q) (behind_op op make g) F (λ c. op c ≡ None)
-  unfolding prefixed
-  op_item = record {
-    some = op_reads;
-    none = λ ts rest e. op_none ts (op (class_at ts)) rest e;
-    takes = op_takes;
-    stops = op_stops;
-    again = λ a u rest x f. op_again a u rest x;
-    longer = op_longer;
-  }
+    pub op_item : Item (prefixed op make q) (behind_op op make g) F (λ c. op c ≡ None)
+    unfolding prefixed
+    op_item = record {
+      some = op_reads;
+      none = λ ts rest e. op_none ts (op (class_at ts)) rest e;
+      takes = op_takes;
+      stops = op_stops;
+      again = λ a u rest x f. op_again a u rest x;
+      longer = op_longer;
+    }
 
 -- ---- the rule of a row
 
@@ -356,56 +356,57 @@ module _ {A : Type 0} (c : ℕ) (q : Parser A) (g : A → Unit {0} → Toks → 
     (starts : (a : A) (u rest : Toks) → g a tt u → eqb (class_at (u ++ rest)) c ≡ true)
     (real : eqb 11 c ≡ false)
     (begins_next : (k : ℕ) → eqb k c ≡ true → F k)
-    where
-  abbrev one_more : Parser (Option A)
-  one_more = λ ts. if class_at ts == c then (q >>= (λ x. pure (some_of x))) ts else pure None ts
+  where
+    abbrev one_more : Parser (Option A)
+    one_more = λ ts. if class_at ts == c then (q >>= (λ x. pure (some_of x))) ts else pure None ts
 
-  from_some : (ts : Toks) (a : A) (rest : Toks) → one_more ts ≡ ok (some_of a) rest → (u : Toks) × (ts ≡ u ++ rest) × g a tt u
-  from_some ts a rest e =
-      elim (cases_Bool (eqb (class_at ts) c)) [
-        | inl is ↦ first (subst (λ (b : Bool). cond b ((q >>= (λ x. pure (some_of x))) ts) (pure None ts) ≡ ok (some_of a) rest) is e)
-        | inr isnt ↦ absurd (none_some (subst (λ (b : Bool). cond b ((q >>= (λ x. pure (some_of x))) ts) (pure None ts) ≡ ok (some_of a) rest) isnt e))
-      ]
-    where
-      first : (q >>= (λ x. pure (some_of x))) ts ≡ ok (some_of a) rest → (u : Toks) × (ts ≡ u ++ rest) × g a tt u
-      first e =
-          let s = bind_ok (q ts) (λ x. pure (some_of x)) (some_of a) rest e in
-          let x = inner.reads ts s.0 s.1 tt s.2 in
-          let same : s.0 ≡ a = some_same (ok_value _ _ _ _ s.3) in
-          let left : s.1 ≡ rest = ok_rest _ _ _ _ s.3 in
-          (x.text, x.parts ∙ ap (λ (t : Toks). x.text ++ t) left, subst (λ (y : A). g y tt x.text) same x.form)
-      none_some : ok (none_of A) ts ≡ ok (some_of a) rest → ⊥
-      none_some e = let bad : none_of A ≡ some_of a = ok_value _ _ _ _ e in absurd cc
+    from_some : (ts : Toks) (a : A) (rest : Toks) → one_more ts ≡ ok (some_of a) rest → (u : Toks) × (ts ≡ u ++ rest) × g a tt u
+    from_some ts a rest e =
+        elim (cases_Bool (eqb (class_at ts) c)) [
+          | inl is ↦ first (subst (λ (b : Bool). cond b ((q >>= (λ x. pure (some_of x))) ts) (pure None ts) ≡ ok (some_of a) rest) is e)
+          | inr isnt ↦ absurd (none_some (subst (λ (b : Bool). cond b ((q >>= (λ x. pure (some_of x))) ts) (pure None ts) ≡ ok (some_of a) rest) isnt e))
+        ]
+      where
+        first : (q >>= (λ x. pure (some_of x))) ts ≡ ok (some_of a) rest → (u : Toks) × (ts ≡ u ++ rest) × g a tt u
+        first e =
+            let s = bind_ok (q ts) (λ x. pure (some_of x)) (some_of a) rest e in
+            let x = inner.reads ts s.0 s.1 tt s.2 in
+            let same : s.0 ≡ a = some_same (ok_value _ _ _ _ s.3) in
+            let left : s.1 ≡ rest = ok_rest _ _ _ _ s.3 in
+            (x.text, x.parts ∙ ap (λ (t : Toks). x.text ++ t) left, subst (λ (y : A). g y tt x.text) same x.form)
 
-  from_none : (ts rest : Toks) → one_more ts ≡ ok (none_of A) rest → ts ≡ rest
-  from_none ts rest e =
-      elim (cases_Bool (eqb (class_at ts) c)) [
-        | inl is ↦ absurd (some_none (q ts) (subst (λ (b : Bool). cond b ((q >>= (λ x. pure (some_of x))) ts) (pure None ts) ≡ ok (none_of A) rest) is e))
-        | inr isnt ↦ ok_rest _ _ _ _ (subst (λ (b : Bool). cond b ((q >>= (λ x. pure (some_of x))) ts) (pure None ts) ≡ ok (none_of A) rest) isnt e)
-      ]
-    where
-      some_none : (o : Outcome A) → and_then o (λ x. pure (some_of x)) ≡ ok (none_of A) rest → ⊥
-      some_none o e = let s = bind_ok o (λ x. pure (some_of x)) (none_of A) rest e in let bad : some_of s.0 ≡ none_of A = ok_value _ _ _ _ s.3 in absurd cc
+        none_some : ok (none_of A) ts ≡ ok (some_of a) rest → ⊥
+        none_some e = let bad : none_of A ≡ some_of a = ok_value _ _ _ _ e in absurd cc
 
-  from_takes : (a : A) (u rest : Toks) → g a tt u → F (class_at rest) → one_more (u ++ rest) ≡ ok (some_of a) rest
-  from_takes a u rest x f = rw (starts a u rest x, inner.takes a tt u rest x f) refl
+    from_none : (ts rest : Toks) → one_more ts ≡ ok (none_of A) rest → ts ≡ rest
+    from_none ts rest e =
+        elim (cases_Bool (eqb (class_at ts) c)) [
+          | inl is ↦ absurd (some_none (q ts) (subst (λ (b : Bool). cond b ((q >>= (λ x. pure (some_of x))) ts) (pure None ts) ≡ ok (none_of A) rest) is e))
+          | inr isnt ↦ ok_rest _ _ _ _ (subst (λ (b : Bool). cond b ((q >>= (λ x. pure (some_of x))) ts) (pure None ts) ≡ ok (none_of A) rest) isnt e)
+        ]
+      where
+        some_none : (o : Outcome A) → and_then o (λ x. pure (some_of x)) ≡ ok (none_of A) rest → ⊥
+        some_none o e = let s = bind_ok o (λ x. pure (some_of x)) (none_of A) rest e in let bad : some_of s.0 ≡ none_of A = ok_value _ _ _ _ s.3 in absurd cc
 
-  from_stops : (ts : Toks) → IsNot c (class_at ts) → one_more ts ≡ ok (none_of A) ts
-  from_stops ts isnt = rw isnt refl
+    from_takes : (a : A) (u rest : Toks) → g a tt u → F (class_at rest) → one_more (u ++ rest) ≡ ok (some_of a) rest
+    from_takes a u rest x f = rw (starts a u rest x, inner.takes a tt u rest x f) refl
 
-  from_longer : (a : A) (u : Toks) → g a tt u → 1 ≤ length u
-  from_longer a [] x = let here : eqb 11 c ≡ true = starts a [] [] x in let no : true ≡ false = sym here ∙ real in absurd cc
-  from_longer a (t ∷ u) x = omega arith
+    from_stops : (ts : Toks) → IsNot c (class_at ts) → one_more ts ≡ ok (none_of A) ts
+    from_stops ts isnt = rw isnt refl
 
-  pub item_from : Item one_more (λ a u. g a tt u) F (λ k. IsNot c k)
-  item_from = record {
-    some = from_some;
-    none = from_none;
-    takes = from_takes;
-    stops = from_stops;
-    again = λ a u rest x f. begins_next (class_at (u ++ rest)) (starts a u rest x);
-    longer = from_longer;
-  }
+    from_longer : (a : A) (u : Toks) → g a tt u → 1 ≤ length u
+    from_longer a [] x = let here : eqb 11 c ≡ true = starts a [] [] x in let no : true ≡ false = sym here ∙ real in absurd cc
+    from_longer a (t ∷ u) x = omega arith
+
+    pub item_from : Item one_more (λ a u. g a tt u) F (λ k. IsNot c k)
+    item_from = record {
+      some = from_some;
+      none = from_none;
+      takes = from_takes;
+      stops = from_stops;
+      again = λ a u rest x f. begins_next (class_at (u ++ rest)) (starts a u rest x);
+      longer = from_longer;
+    }
 
 pub no_item : {A : Type 0} (F : ℕ → Type 0) → Item {A = A} (pure None) (λ a u. ⊥) F Any
 no_item {A} F = record {
@@ -424,56 +425,56 @@ module _ {A : Type 0} (c : ℕ) (real : eqb 11 c ≡ false) (q : Parser A) (g : 
     (p : Parser (Option A)) (h : A → Toks → Type 0) (others : Item p h F S)
     (here : F c)
     (apart : (a : A) (u rest : Toks) → h a u → eqb (class_at (u ++ rest)) c ≡ false)
-    where
-  abbrev pub or_token : A → Toks → Type 0
-  or_token a u = token c g a tt u ⊎ h a u
+  where
+    abbrev pub or_token : A → Toks → Type 0
+    or_token a u = token c g a tt u ⊎ h a u
 
-  on_some : (ts : Toks) (a : A) (rest : Toks) → on c (q >>= (λ x. pure (some_of x))) p ts ≡ ok (some_of a) rest → (u : Toks) × (ts ≡ u ++ rest) × or_token a u
-  unfolding next
-  on_some ts a rest e =
-      elim (cases_Bool (eqb (class_at ts) c)) [
-        | inl is ↦ first (begins c ts real is) is (subst (λ (b : Bool). cond b ((q >>= (λ x. pure (some_of x))) (next ts)) (p ts) ≡ ok (some_of a) rest) is e)
-        | inr isnt ↦ let x = others.some ts a rest (subst (λ (b : Bool). cond b ((q >>= (λ x. pure (some_of x))) (next ts)) (p ts) ≡ ok (some_of a) rest) isnt e) in (x.0, x.1, inr x.2)
-      ]
-    where
-      first : Begins c ts → eqb (class_at ts) c ≡ true → (q >>= (λ x. pure (some_of x))) (next ts) ≡ ok (some_of a) rest → (u : Toks) × (ts ≡ u ++ rest) × or_token a u
-      first b is e =
-          let tail : next ts ≡ b.others = rw (b.parts) refl in
-          let s = bind_ok (q b.others) (λ x. pure (some_of x)) (some_of a) rest (rw tail at e) in
-          let x = inner.reads b.others s.0 s.1 tt s.2 in
-          let same : s.0 ≡ a = some_same (ok_value _ _ _ _ s.3) in
-          let left : s.1 ≡ rest = ok_rest _ _ _ _ s.3 in
-          (b.first ∷ x.text, b.parts ∙ ap (λ (t : Toks). b.first ∷ t) (x.parts ∙ ap (λ (t : Toks). x.text ++ t) left), inl (b.first, x.text, refl, b.class, subst (λ (y : A). g y tt x.text) same x.form))
+    on_some : (ts : Toks) (a : A) (rest : Toks) → on c (q >>= (λ x. pure (some_of x))) p ts ≡ ok (some_of a) rest → (u : Toks) × (ts ≡ u ++ rest) × or_token a u
+    unfolding next
+    on_some ts a rest e =
+        elim (cases_Bool (eqb (class_at ts) c)) [
+          | inl is ↦ first (begins c ts real is) is (subst (λ (b : Bool). cond b ((q >>= (λ x. pure (some_of x))) (next ts)) (p ts) ≡ ok (some_of a) rest) is e)
+          | inr isnt ↦ let x = others.some ts a rest (subst (λ (b : Bool). cond b ((q >>= (λ x. pure (some_of x))) (next ts)) (p ts) ≡ ok (some_of a) rest) isnt e) in (x.0, x.1, inr x.2)
+        ]
+      where
+        first : Begins c ts → eqb (class_at ts) c ≡ true → (q >>= (λ x. pure (some_of x))) (next ts) ≡ ok (some_of a) rest → (u : Toks) × (ts ≡ u ++ rest) × or_token a u
+        first b is e =
+            let tail : next ts ≡ b.others = rw (b.parts) refl in
+            let s = bind_ok (q b.others) (λ x. pure (some_of x)) (some_of a) rest (rw tail at e) in
+            let x = inner.reads b.others s.0 s.1 tt s.2 in
+            let same : s.0 ≡ a = some_same (ok_value _ _ _ _ s.3) in
+            let left : s.1 ≡ rest = ok_rest _ _ _ _ s.3 in
+            (b.first ∷ x.text, b.parts ∙ ap (λ (t : Toks). b.first ∷ t) (x.parts ∙ ap (λ (t : Toks). x.text ++ t) left), inl (b.first, x.text, refl, b.class, subst (λ (y : A). g y tt x.text) same x.form))
 
-  on_none : (ts rest : Toks) → on c (q >>= (λ x. pure (some_of x))) p ts ≡ ok (none_of A) rest → ts ≡ rest
-  on_none ts rest e =
-      elim (cases_Bool (eqb (class_at ts) c)) [
-        | inl is ↦ absurd (never_none (q (next ts)) rest (subst (λ (b : Bool). cond b ((q >>= (λ x. pure (some_of x))) (next ts)) (p ts) ≡ ok (none_of A) rest) is e))
-        | inr isnt ↦ others.none ts rest (subst (λ (b : Bool). cond b ((q >>= (λ x. pure (some_of x))) (next ts)) (p ts) ≡ ok (none_of A) rest) isnt e)
-      ]
-    where
-      never_none : (o : Outcome A) (rest : Toks) → and_then o (λ x. pure (some_of x)) ≡ ok (none_of A) rest → ⊥
-      never_none o rest e = let s = bind_ok o (λ x. pure (some_of x)) (none_of A) rest e in let bad : some_of s.0 ≡ none_of A = ok_value _ _ _ _ s.3 in absurd cc
+    on_none : (ts rest : Toks) → on c (q >>= (λ x. pure (some_of x))) p ts ≡ ok (none_of A) rest → ts ≡ rest
+    on_none ts rest e =
+        elim (cases_Bool (eqb (class_at ts) c)) [
+          | inl is ↦ absurd (never_none (q (next ts)) rest (subst (λ (b : Bool). cond b ((q >>= (λ x. pure (some_of x))) (next ts)) (p ts) ≡ ok (none_of A) rest) is e))
+          | inr isnt ↦ others.none ts rest (subst (λ (b : Bool). cond b ((q >>= (λ x. pure (some_of x))) (next ts)) (p ts) ≡ ok (none_of A) rest) isnt e)
+        ]
+      where
+        never_none : (o : Outcome A) (rest : Toks) → and_then o (λ x. pure (some_of x)) ≡ ok (none_of A) rest → ⊥
+        never_none o rest e = let s = bind_ok o (λ x. pure (some_of x)) (none_of A) rest e in let bad : some_of s.0 ≡ none_of A = ok_value _ _ _ _ s.3 in absurd cc
 
-  on_takes : (a : A) (u rest : Toks) → or_token a u → F (class_at rest) → on c (q >>= (λ x. pure (some_of x))) p (u ++ rest) ≡ ok (some_of a) rest
-  unfolding next
-  on_takes a u rest (inl (t, v, e, is, x)) f = rw (e, is, eq-eqb c c refl, inner.takes a tt v rest x f) refl
-  on_takes a u rest (inr x) f = rw (apart a u rest x) (others.takes a u rest x f)
+    on_takes : (a : A) (u rest : Toks) → or_token a u → F (class_at rest) → on c (q >>= (λ x. pure (some_of x))) p (u ++ rest) ≡ ok (some_of a) rest
+    unfolding next
+    on_takes a u rest (inl (t, v, e, is, x)) f = rw (e, is, eq-eqb c c refl, inner.takes a tt v rest x f) refl
+    on_takes a u rest (inr x) f = rw (apart a u rest x) (others.takes a u rest x f)
 
-  on_again : (a : A) (u rest : Toks) → or_token a u → F (class_at rest) → F (class_at (u ++ rest))
-  on_again a u rest (inl (t, v, e, is, x)) f = rw (e, is) here
-  on_again a u rest (inr x) f = others.again a u rest x f
+    on_again : (a : A) (u rest : Toks) → or_token a u → F (class_at rest) → F (class_at (u ++ rest))
+    on_again a u rest (inl (t, v, e, is, x)) f = rw (e, is) here
+    on_again a u rest (inr x) f = others.again a u rest x f
 
-  on_longer : (a : A) (u : Toks) → or_token a u → 1 ≤ length u
-  on_longer a u (inl (t, v, e, is, x)) = rw e (omega arith)
-  on_longer a u (inr x) = others.longer a u x
+    on_longer : (a : A) (u : Toks) → or_token a u → 1 ≤ length u
+    on_longer a u (inl (t, v, e, is, x)) = rw e (omega arith)
+    on_longer a u (inr x) = others.longer a u x
 
-  pub item_on : Item (on c (q >>= (λ x. pure (some_of x))) p) or_token F (λ k. IsNot c k × S k)
-  item_on = record {
-    some = on_some;
-    none = on_none;
-    takes = on_takes;
-    stops = λ ts s. rw s.0 (others.stops ts s.1);
-    again = on_again;
-    longer = on_longer;
-  }
+    pub item_on : Item (on c (q >>= (λ x. pure (some_of x))) p) or_token F (λ k. IsNot c k × S k)
+    item_on = record {
+      some = on_some;
+      none = on_none;
+      takes = on_takes;
+      stops = λ ts s. rw s.0 (others.stops ts s.1);
+      again = on_again;
+      longer = on_longer;
+    }

@@ -11,7 +11,7 @@ use Rattle.program_tree.specs.declared.stmt.StmtKind.{StmtKind}
 use Rattle.program_tree.specs.declared.stmt.StmtKind.TheVariants as s
 use Rattle.program_tree.specs.Tokens.{Toks, class_at}
 use Rattle.program_tree.specs.Symbols.{begin_word, end_word, else_word, until_word, ident_class, open_sign, close_sign, becomes_sign, comma_sign, semicolon_sign, colon_sign}
-use Rattle.program_tree.specs.Forms.{Form, just, token, chain, either, row, rows, operator, named}
+use Rattle.program_tree.specs.Forms.{Form, just, token, chain, either, row, rows, list_of, operator, named}
 use Rattle.program_tree.specs.Expressions.{make_access, access_form, part_form, expr_at}
 use Rattle.program_tree.specs.Statements.{make_arg, make_stmt, width_form, arg_form, args_form, assign_form, call_form, empty_form, compound_in, compound_form, kind_form, stmt_form, stmt_at}
 use Rattle.grammar_laws.specs.Parsers.{Parser, ◌>>=◌, pure, refuse, on}
@@ -19,9 +19,9 @@ use Rattle.grammar_laws.specs.Reading as r
 use Rattle.grammar_laws.specs.StmtReading as read
 use Rattle.grammar_laws.proofs.Rules.{Rule, Found, Any, IsNot, ok, seq, give, narrow, before, guarded, some_of, token_rule, expect_rule, choice_rule, many_rule}
 use Rattle.grammar_laws.proofs.FactorRules.{Plain, never_rule, deep_rule}
-use Rattle.grammar_laws.proofs.ExprLaws.{AccessEnds, first_class, ident_rule, list_rule, part_item}
+use Rattle.grammar_laws.proofs.ExprLaws.{AccessEnds, access_starts, first_class, ident_rule, list_rule, part_item}
 use Rattle.grammar_laws.proofs.SumLaws.{ExprEnds, AllOps, op_apart}
-use Rattle.grammar_laws.proofs.Whole.{expr_rules, access_starts}
+use Rattle.grammar_laws.proofs.Whole.{expr_rules}
 
 -- what may follow a statement: `;`, `end`, `until`, `else` and nothing more
 abbrev pub stop_table : List (ℕ × Bool)
@@ -35,8 +35,7 @@ stops_all P all c e = op_apart P stop_table all c true e
 
 stops_expr : (c : ℕ) → Stops c → ExprEnds c
 stops_expr = stops_all ExprEnds
-    (((((refl, refl, refl), refl), refl), refl), ((((refl, refl, refl), refl), refl), refl), ((((refl, refl, refl), refl), refl), refl),
-    ((((refl, refl, refl), refl), refl), refl), ((((refl, refl, refl), refl), refl), refl), tt)
+    (((((refl, refl, refl), refl), refl), refl), (((((refl, refl, refl), refl), refl), refl), (((((refl, refl, refl), refl), refl), refl), (((((refl, refl, refl), refl), refl), refl), (((((refl, refl, refl), refl), refl), refl), tt)))))
 
 stops_access : (c : ℕ) → Stops c → AccessEnds c
 stops_access c e = (stops_expr c e).0.0.0
@@ -94,7 +93,10 @@ module _ (inner : r.Inner) (A : Form Expr) (arg_expr : Rule Any (inner.expr) A P
       (λ e _. seq width_rule (λ o _. give (make_arg e o) tt (λ _ c. ArgEnds c)) (λ o w b v y rest h f. rw h.2 f))
       (λ e w b v y rest (o, w1, y1, y2, is, g, h) f. rw (is, h.2, append-nil y1) (width_follows o w1 y1 rest g f.0))
 
-  args_in_rule : Rule Any (read.args_in inner) (chain _ (λ args _. token close_sign (just args tt))) Plain ArgsEnd
+  abbrev args_behind : Form (List Arg)
+  args_behind = chain (list_of comma_sign (arg_form A)) (λ args _. token close_sign (just args tt))
+
+  args_in_rule : Rule Any (read.args_in inner) args_behind Plain ArgsEnd
   unfolding read.args_in
   args_in_rule =
       seq (list_rule comma_sign refl (read.arg inner) (arg_form A) ArgEnds arg_rule ((((((refl, refl, refl), refl), refl), refl)), refl))
@@ -107,11 +109,11 @@ module _ (inner : r.Inner) (A : Form Expr) (arg_expr : Rule Any (inner.expr) A P
       choice_rule open_sign Any _ _ _ _ Plain ArgsEnd
       (before _ (λ k h. h.1) (token_rule open_sign refl _ _ Plain ArgsEnd args_in_rule))
       (before _ (λ k h. tt) (give [] tt ArgsEnd))
-      (λ a w u rest x f. rw (first_class open_sign _ a u rest x) refl)
+      (λ a w u rest x f. rw (first_class open_sign args_behind a u rest x) refl)
       (λ a w u rest x f. rw x.2 f)
 
   args_class : (P : ℕ → Type 0) → P open_sign → (args : List Arg) (w : Unit {0}) (u rest : Toks) → args_form A args w u → P (class_at rest) → P (class_at (u ++ rest))
-  args_class P opens args w u rest (inl x) f = rw (first_class open_sign _ args u rest x) opens
+  args_class P opens args w u rest (inl x) f = rw (first_class open_sign args_behind args u rest x) opens
   args_class P opens args w u rest (inr x) f = rw x.2 f
 
   -- ---- a statement that begins with an identifier
@@ -146,7 +148,7 @@ module _ (inner : r.Inner) (A : Form Expr) (arg_expr : Rule Any (inner.expr) A P
     unfolding read.call
     call_rule x [] =
         guarded ([] ≡ []) (λ k h. refl)
-        (seq args_rule (λ args w. give (s.Call x args) tt SF) (λ args w b v y rest h f. rw h.2 (stops_not open_sign (refl, refl, refl, refl, refl, tt) (class_at rest) f)))
+        (seq args_rule (λ args w. give (s.Call x args) tt SF) (λ args w b v y rest h f. rw h.2 (stops_not open_sign (refl, (refl, (refl, (refl, (refl, tt))))) (class_at rest) f)))
     call_rule x (p ∷ parts) = record {
       reads = λ ts k rest pre e. absurd (refused k ts rest e);
       takes = λ k w u rest h f. absurd (not_nil p parts h.0);
@@ -164,7 +166,7 @@ module _ (inner : r.Inner) (A : Form Expr) (arg_expr : Rule Any (inner.expr) A P
         (before _ (λ k h. h.1) (token_rule becomes_sign refl _ _ Plain SF (assign_rule x parts)))
         (before _ (λ k h. tt) (call_rule x parts))
         (λ k w u rest h f. rw (first_class becomes_sign (assign_in x parts) k u rest h) refl)
-        (λ k w u rest h f. call_class (λ c. IsNot becomes_sign c) refl x k w u rest h.1 (stops_not becomes_sign (refl, refl, refl, refl, refl, tt) (class_at rest) f))
+        (λ k w u rest h f. call_class (λ c. IsNot becomes_sign c) refl x k w u rest h.1 (stops_not becomes_sign (refl, (refl, (refl, (refl, (refl, tt))))) (class_at rest) f))
 
     -- what an access is followed by
     access_ends : (x : List ℕ) (parts : List AccessPart) (k : StmtKind) (w : Unit {0}) (u rest : Toks) → behind_access x parts k w u → Stops (class_at rest) → AccessEnds (class_at (u ++ rest))
@@ -176,8 +178,8 @@ module _ (inner : r.Inner) (A : Form Expr) (arg_expr : Rule Any (inner.expr) A P
     by_ident_rule =
         seq (ident_rule FA)
         (λ x _. seq (narrow (λ _ c. AccessEnds c) (λ w c f. (tt, (f.0, (f.1, (f.2, tt))))) (many_rule _ _ _ _ (part_item inner A ExprEnds arg_expr ((((refl, refl, refl), refl), refl), refl) ((((refl, refl, refl), refl), refl), refl))))
-          (λ parts _. behind_rule x parts)
-          (λ parts w k v y rest h f. access_ends x parts k v y rest h f))
+        (λ parts _. behind_rule x parts)
+        (λ parts w k v y rest h f. access_ends x parts k v y rest h f))
         (λ x w k v y rest h f. tt)
 
     row_nil : (parts : List AccessPart) (u : Toks) → parts ≡ [] → row (part_form A) parts u → u ≡ []
@@ -210,7 +212,7 @@ module _ (inner : r.Inner) (A : Form Expr) (arg_expr : Rule Any (inner.expr) A P
     module _ (stmt : Parser Stmt) (S : Form Stmt) (inner_stmt : Rule Any stmt S Plain SF) where
       begin_not : (k : StmtKind) (w : Unit {0}) (u rest : Toks) → either (either (assign_form E A) (call_form A)) empty_form k w u → Stops (class_at rest) → IsNot begin_word (class_at (u ++ rest))
       begin_not k w u rest (inl x) f = rw (named_starts k w u rest x) refl
-      begin_not k w u rest (inr x) f = rw x.2 (stops_not begin_word (refl, refl, refl, refl, refl, tt) (class_at rest) f)
+      begin_not k w u rest (inr x) f = rw x.2 (stops_not begin_word (refl, (refl, (refl, (refl, (refl, tt))))) (class_at rest) f)
 
       kind_rule : Rule Any (read.kind inner stmt) (kind_form E A S) Plain SF
       unfolding read.kind
@@ -218,11 +220,11 @@ module _ (inner : r.Inner) (A : Form Expr) (arg_expr : Rule Any (inner.expr) A P
           choice_rule begin_word Any _ _ _ _ Plain SF
           (before _ (λ k h. h.1) (token_rule begin_word refl _ _ Plain SF (narrow SF (λ w c f. tt) (compound_rule stmt S inner_stmt))))
           (before _ (λ k h. tt)
-            (choice_rule ident_class Any _ _ _ _ Plain SF
-              (before _ (λ k h. tt) named_rule)
-              (before _ (λ k h. tt) (give s.Empty tt SF))
-              (λ k w u rest x f. rw (named_starts k w u rest x) refl)
-              (λ k w u rest x f. rw x.2 (stops_not ident_class (refl, refl, refl, refl, refl, tt) (class_at rest) f))))
+          (choice_rule ident_class Any _ _ _ _ Plain SF
+          (before _ (λ k h. tt) named_rule)
+          (before _ (λ k h. tt) (give s.Empty tt SF))
+          (λ k w u rest x f. rw (named_starts k w u rest x) refl)
+          (λ k w u rest x f. rw x.2 (stops_not ident_class (refl, (refl, (refl, (refl, (refl, tt))))) (class_at rest) f))))
           (λ k w u rest x f. rw (first_class begin_word (compound_in S) k u rest x) refl)
           (λ k w u rest x f. begin_not k w u rest x f)
 

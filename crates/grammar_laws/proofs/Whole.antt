@@ -16,24 +16,20 @@ use Rattle.program_tree.specs.Forms.{Form, never}
 use Rattle.program_tree.specs.Expressions.{access_form, factor_form, expr_form, expr_at, factor_at}
 use Rattle.program_tree.specs.Expressions as s
 use Rattle.grammar_laws.proofs.FactorRules.{Plain, deep_rule, factor_rule}
-use Rattle.grammar_laws.proofs.ExprLaws.{AccessEnds, access_rule}
+use Rattle.grammar_laws.proofs.ExprLaws.{AccessEnds, access_starts, access_rule}
 use Rattle.grammar_laws.proofs.SumLaws.{SignEnds, TermEnds, SumEnds, ExprEnds, op_apart, expr_rule}
 
 add_apart : (c : ℕ) (o : AddOp) → s.add_op c ≡ Some o → TermEnds c
-add_apart = op_apart TermEnds s.add_ops (((refl, refl, refl), refl), ((refl, refl, refl), refl), ((refl, refl, refl), refl), tt)
+add_apart = op_apart TermEnds s.add_ops (((refl, refl, refl), refl), (((refl, refl, refl), refl), (((refl, refl, refl), refl), tt)))
 
 rel_apart : (c : ℕ) (o : RelOp) → s.rel_op c ≡ Some o → SumEnds c
 rel_apart = op_apart SumEnds s.rel_ops
-    ((((refl, refl, refl), refl), refl), (((refl, refl, refl), refl), refl), (((refl, refl, refl), refl), refl), (((refl, refl, refl), refl), refl),
-    (((refl, refl, refl), refl), refl), (((refl, refl, refl), refl), refl), (((refl, refl, refl), refl), refl), tt)
+    ((((refl, refl, refl), refl), refl), ((((refl, refl, refl), refl), refl), ((((refl, refl, refl), refl), refl), ((((refl, refl, refl), refl), refl), ((((refl, refl, refl), refl), refl), ((((refl, refl, refl), refl), refl), ((((refl, refl, refl), refl), refl), tt)))))))
 
 module _ (E : Form Expr) (N : Form Factor) where
-  pub access_starts : (a : Access) (w : Unit {0}) (u rest : Toks) → access_form E a w u → class_at (u ++ rest) ≡ ident_class
-  access_starts a w u rest (x, v, y, z, e, g, h) = rw (e, g) refl
-
   starts : (a : Factor) (w : Unit {0}) (u rest : Toks) → factor_form E N a w u → SignEnds false (class_at (u ++ rest))
   starts a w u rest (inl (n, v, y, z, e, g, h)) = rw (e, g) (refl, refl)
-  starts a w u rest (inr (inl (x, v, y, z, e, g, h))) = rw (e, append_assoc y z rest, access_starts x v y (z ++ rest) g) (refl, refl)
+  starts a w u rest (inr (inl (x, v, y, z, e, g, h))) = rw (e, append_assoc y z rest, access_starts E x v y (z ++ rest) g) (refl, refl)
   starts a w u rest (inr (inr (inl (t, v, e, is, x)))) = rw (e, is) (refl, refl)
   starts a w u rest (inr (inr (inr (inl (t, v, e, is, x))))) = rw (e, is) (refl, refl)
   starts a w u rest (inr (inr (inr (inr x)))) = absurd x
@@ -42,13 +38,14 @@ module _ (E : Form Expr) (N : Form Factor) where
     factor_step : Rule Any (r.factor inner) (factor_form E N) Plain (λ _ c. AccessEnds c)
     factor_step =
         factor_rule inner E N ExprEnds AccessEnds er ((((refl, refl, refl), refl), refl), refl) nr
-        (access_rule inner E ExprEnds er ((((refl, refl, refl), refl), refl), refl) ((((refl, refl, refl), refl), refl), refl)) access_starts
+        (access_rule inner E ExprEnds er ((((refl, refl, refl), refl), refl), refl) ((((refl, refl, refl), refl), refl), refl)) (access_starts E)
 
     expr_step : Rule Any (r.expr inner) (expr_form (factor_form E N)) Plain (λ _ c. ExprEnds c)
     expr_step = expr_rule inner (factor_form E N) factor_step starts add_apart rel_apart
 
 mutual
   unfolding r.inside expr_at factor_at
+
   pub expr_rules : (d : ℕ) → Rule Any ((r.inside d).expr) (expr_at d) Plain (λ _ c. ExprEnds c)
   expr_rules zero = deep_rule (λ _ c. ExprEnds c)
   expr_rules (suc d) = expr_step (expr_at d) (factor_at d) (r.inside d) (expr_rules d) (factor_rules d)
