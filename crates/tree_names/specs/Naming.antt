@@ -23,7 +23,7 @@ if_any (Some f) n = (Some (f n).0, (f n).1)
 
 -- ---- statements
 
-abbrev pub in_kind : StmtKind-F (Numbering Arm) (Numbering Stmt) (Numbering StmtKind) → Numbering StmtKind
+abbrev pub in_kind : StmtKind-F (Numbering StmtKind) (Numbering Arm) (Numbering Stmt) → Numbering StmtKind
 in_kind StmtKind-F.Empty n = (s.Empty, n)
 in_kind (StmtKind-F.Assign a e) n = (s.Assign a e, n)
 in_kind (StmtKind-F.Call x args) n = (s.Call x args, n)
@@ -36,20 +36,20 @@ in_kind (StmtKind-F.Repeat fs e) n = (s.Repeat (in_turn fs n).0 e, (in_turn fs n
 in_kind (StmtKind-F.For x first down last f) n = (s.For x first down last (f n).0, (f n).1)
 in_kind (StmtKind-F.With records f) n = (s.With records (f n).0, (f n).1)
 
-abbrev pub in_stmt : Stmt-F (Numbering Arm) (Numbering Stmt) (Numbering StmtKind) → Numbering Stmt
+abbrev pub in_stmt : Stmt-F (Numbering StmtKind) (Numbering Arm) (Numbering Stmt) → Numbering Stmt
 in_stmt x n = (roll-Stmt (record { name = record { 0 = n }; label = x.label; kind = (x.kind (n + 1)).0 }), (x.kind (n + 1)).1)
 
-abbrev pub in_arm : Arm-F (Numbering Arm) (Numbering Stmt) (Numbering StmtKind) → Numbering Arm
+abbrev pub in_arm : Arm-F (Numbering StmtKind) (Numbering Arm) (Numbering Stmt) → Numbering Arm
 in_arm x n = (roll-Arm (record { constants = x.constants; body = (x.body n).0 }), (x.body n).1)
 
 abbrev pub stmt_numbered : Stmt → Numbering Stmt
-stmt_numbered = fold-Stmt (Numbering Arm) (Numbering Stmt) (Numbering StmtKind) in_arm in_stmt in_kind
+stmt_numbered = fold-Stmt (Numbering StmtKind) (Numbering Arm) (Numbering Stmt) in_kind in_arm in_stmt
 
 abbrev pub kind_numbered : StmtKind → Numbering StmtKind
-kind_numbered = fold-StmtKind (Numbering Arm) (Numbering Stmt) (Numbering StmtKind) in_arm in_stmt in_kind
+kind_numbered = fold-StmtKind (Numbering StmtKind) (Numbering Arm) (Numbering Stmt) in_kind in_arm in_stmt
 
 abbrev pub arm_numbered : Arm → Numbering Arm
-arm_numbered = fold-Arm (Numbering Arm) (Numbering Stmt) (Numbering StmtKind) in_arm in_stmt in_kind
+arm_numbered = fold-Arm (Numbering StmtKind) (Numbering Arm) (Numbering Stmt) in_kind in_arm in_stmt
 
 abbrev pub stmts_numbered : List Stmt → Numbering (List Stmt)
 stmts_numbered xs = in_turn (map stmt_numbered xs)

@@ -1,8 +1,8 @@
 //! Exact copies of types and declarations.
 ghost use Rattle.std.specs.Prelude.{◌≡◌, IfOk};
 
-use program_tree::{Constant, DeclKind, FieldText, Heading, Section, TypeText};
 use dice_base::{NoMemory, Text};
+use program_tree::{Constant, DeclKind, FieldText, Heading, Section, TypeText};
 use sqlite_items::{Boxed, Items};
 use std::alloc::Global;
 

@@ -1,10 +1,10 @@
 //! Exact copies of expressions.
 ghost use Rattle.std.specs.Prelude.{◌≡◌, IfOk};
 
+use dice_base::NoMemory;
 use program_tree::{
     Access, AccessPart, AddPart, Arg, Expr, Factor, MulPart, RelPart, SetMember, SumExpr, Term,
 };
-use dice_base::NoMemory;
 use sqlite_items::{Boxed, Items};
 use std::alloc::Global;
 

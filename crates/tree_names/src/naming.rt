@@ -4,8 +4,8 @@ ghost use Rattle.tree_names.specs.Naming as spec;
 
 use crate::decl_copies::{copy_constants, copy_decl_kind, copy_heading, copy_texts};
 use crate::expr_copies::{copy_access, copy_accesses, copy_args, copy_expr};
-use program_tree::{Arm, Block, Decl, Expr, Program, Routine, Stmt, StmtKind};
 use dice_base::{Name, NoMemory};
+use program_tree::{Arm, Block, Decl, Expr, Program, Routine, Stmt, StmtKind};
 use sqlite_items::{Boxed, Items};
 use std::alloc::Global;
 
