@@ -71,6 +71,13 @@ impl Console {
         self.output.read_into(into)
     }
 
+    /// Drops all that was written and not yet drained.
+    pub fn reset(&mut self)
+        ensures { self.new.output ≡ [] }
+    {
+        self.output.clear();
+    }
+
     /// Does the service of this number, one of those that are built: 0 the program has ended, 4 writes the integer
     /// in R0 in the width in R1, which is 1 to 255 or else error 11, and 8 writes a line end. Where it answers
     /// `Error` or `Full`, the console and the machine stay as they were.

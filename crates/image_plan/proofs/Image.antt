@@ -1,7 +1,6 @@
 -- A memory with the words of a whole load holds the program.
 use Rattle.std.proofs.Common.{◌*◌, ◌≡◌, ◌≢◌, ℕ, ◌+◌, ◌*◌, ◌<◌, ◌≤◌, Bool, true, false, List, [], ◌∷◌, length, map, Option, Some, None, refl, sym, ap, ◌∙◌, subst, arith, length-append, inl, inr, ◌⊎◌}
 use Rattle.std.specs.Prelude.{slice_index, ◌==◌, if◌then◌else◌, find}
-use Rattle.std.proofs.lemmas.Bool.{false≢true}
 use Rattle.std.proofs.Math.ListN.{get_or-append}
 use Rattle.std.proofs.lemmas.List.{get_or-set_other}
 use Rattle.dice_base.specs.declared.link.LinkTo.{LinkTo}
@@ -11,90 +10,88 @@ use Rattle.code_image.specs.declared.block.BlockCode.{BlockCode}
 use Rattle.code_image.specs.Block.{Gate, Block, laid, linked, or_zero, place_in, place_of}
 use Rattle.code_image.specs.BlockOf.{block_of, link_of, first_of}
 use Rattle.code_image.specs.Image.{Lies, IsEnd, HasLink}
-use Rattle.pascal_semantics.specs.declared.form.SimpleForm.{SimpleForm}
-use Rattle.pascal_semantics.specs.Charge.{charge_of, program_charge, charges_of}
-use Rattle.pascal_semantics.specs.Program.{Program, Target, Gate as GateOf, Finish, Row, row_of, rows_from, entry_from, program_of, first_name}
+use Rattle.pascal_semantics.specs.declared.form.Statement.{Statement}
+use Rattle.pascal_semantics.specs.Charge.{charge_of, program_charge}
+use Rattle.pascal_semantics.specs.Program.{Program, Target, Gate as GateOf, Finish, Row, row_of, rows_of, entry_of, program_of}
+use Rattle.pascal_semantics.specs.Valid.{IsProgram, program_name}
 use Rattle.statement_code.specs.Forms.{BlockForm, ProgramBlock, StatementBlock, simple}
 use Rattle.statement_code.specs.Emitted.{IsNoGate, IsCodeOf, IsProgramCode, HasLinkWord}
-use Rattle.image_plan.specs.Links.{blocks_of, program_name, spot_of, form_of, end_of}
+use Rattle.image_plan.specs.Links.{blocks_of, spot_of, form_of, end_of}
 use Rattle.image_plan.specs.Codes.{AreCodes, laid_to, next_place, statements_laid, first_place, finish_place, image_words, words_in}
 use Rattle.image_plan.specs.Load.{place_from, placed, IsLoad}
 use Rattle.image_plan.specs.Load as load
 use Rattle.image_plan.proofs.Lists.{codes_long}
-use Rattle.image_plan.proofs.Laid.{blocks_from, all_blocks, same_test, other_test, is_same, laid_long, statements_long, one_link, gate_set, no_gate_set, LeadsTo, entry_leads, entry_later, found_later, statement_found}
+use Rattle.image_plan.proofs.Laid.{blocks_from, all_blocks, other_test, is_same, laid_long, statements_long, one_link, gate_set, no_gate_set, LeadsTo, entry_leads, entry_free, found_apart, statement_found}
 
 -- ---- where blocks lie
 
-record Ranged (n p high m : ℕ) (b : Block) : Type 0 where
-  name : n ≤ m
+record Ranged (p high : ℕ) (b : Block) : Type 0 where
   above : p ≤ b.place
   below : b.place + length b.words ≤ high
 
-block_ranged : (n p : ℕ) (cs : List BlockCode) (m : ℕ) (b : Block) → blocks_from n p cs m ≡ Some b → Ranged n p (p + words_in cs) m b
-block_ranged n p [] m b e = absurd (grind (arith, e))
-block_ranged n p (c ∷ cs) m b e = by (m == n) refl e (λ f. block_ranged (n + 1) (p + length c.words.items) cs m b f)
+block_ranged : (p : ℕ) (ss : List Statement) (cs : List BlockCode) (m : ℕ) (b : Block) → blocks_from p ss cs m ≡ Some b → Ranged p (p + words_in cs) b
+block_ranged p [] cs m b e = absurd (grind (arith, e))
+block_ranged p (s ∷ ss) [] m b e = absurd (grind (arith, e))
+block_ranged p (s ∷ ss) (c ∷ cs) m b e = by (s.name == m) e (λ f. block_ranged (p + length c.words.items) ss cs m b f)
   where
-    by : (t : Bool) → (m == n) ≡ t → (if t then Some (block_of p c) else blocks_from (n + 1) (p + length c.words.items) cs m) ≡ Some b → (blocks_from (n + 1) (p + length c.words.items) cs m ≡ Some b → Ranged (n + 1) (p + length c.words.items) (p + length c.words.items + words_in cs) m b) → Ranged n p (p + words_in (c ∷ cs)) m b
-    by true t f rest = let same : block_of p c ≡ b = cc f in record { name = omega (arith, is_same m n t); above = omega (arith, ap (λ k. k.place) same); below = omega (arith, ap (λ k. k.place) same, ap (λ k. length k.words) same) }
-    by false t f rest = let r = rest f in record { name = omega (arith, r.name); above = omega (arith, r.above); below = omega (arith, r.below) }
+    by : (t : Bool) → (if t then Some (block_of p c) else blocks_from (p + length c.words.items) ss cs m) ≡ Some b → (blocks_from (p + length c.words.items) ss cs m ≡ Some b → Ranged (p + length c.words.items) (p + length c.words.items + words_in cs) b) → Ranged p (p + words_in (c ∷ cs)) b
+    by true f rest = let same : block_of p c ≡ b = cc f in record { above = omega (arith, ap (λ k. k.place) same); below = omega (arith, ap (λ k. k.place) same, ap (λ k. length k.words) same) }
+    by false f rest = let r = rest f in record { above = omega (arith, r.above); below = omega (arith, r.below) }
 
-blocks_apart : (n p : ℕ) (cs : List BlockCode) (l m : ℕ) (b d : Block) (j k : ℕ) → blocks_from n p cs l ≡ Some b → blocks_from n p cs m ≡ Some d → j < length b.words → k < length d.words → b.place + j ≡ d.place + k → l ≡ m
-blocks_apart n p [] l m b d j k e f lj lk at = absurd (grind (arith, e))
-blocks_apart n p (c ∷ cs) l m b d j k e f lj lk at = by (l == n) refl e (m == n) refl f (λ g h. blocks_apart (n + 1) (p + length c.words.items) cs l m b d j k g h lj lk at) (block_ranged (n + 1) (p + length c.words.items) cs l b) (block_ranged (n + 1) (p + length c.words.items) cs m d)
+blocks_apart : (p : ℕ) (ss : List Statement) (cs : List BlockCode) (l m : ℕ) (b d : Block) (j k : ℕ) → blocks_from p ss cs l ≡ Some b → blocks_from p ss cs m ≡ Some d → j < length b.words → k < length d.words → b.place + j ≡ d.place + k → l ≡ m
+blocks_apart p [] cs l m b d j k e f lj lk at = absurd (grind (arith, e))
+blocks_apart p (s ∷ ss) [] l m b d j k e f lj lk at = absurd (grind (arith, e))
+blocks_apart p (s ∷ ss) (c ∷ cs) l m b d j k e f lj lk at = by (s.name == l) refl e (s.name == m) refl f (λ g h. blocks_apart (p + length c.words.items) ss cs l m b d j k g h lj lk at) (block_ranged (p + length c.words.items) ss cs l b) (block_ranged (p + length c.words.items) ss cs m d)
   where
-    rest_of : ℕ → Option Block
-    rest_of = blocks_from (n + 1) (p + length c.words.items) cs
+    by : (x : Bool) → (s.name == l) ≡ x → (if x then Some (block_of p c) else blocks_from (p + length c.words.items) ss cs l) ≡ Some b → (t : Bool) → (s.name == m) ≡ t → (if t then Some (block_of p c) else blocks_from (p + length c.words.items) ss cs m) ≡ Some d
+        → (blocks_from (p + length c.words.items) ss cs l ≡ Some b → blocks_from (p + length c.words.items) ss cs m ≡ Some d → l ≡ m)
+        → (blocks_from (p + length c.words.items) ss cs l ≡ Some b → Ranged (p + length c.words.items) (p + length c.words.items + words_in cs) b)
+        → (blocks_from (p + length c.words.items) ss cs m ≡ Some d → Ranged (p + length c.words.items) (p + length c.words.items + words_in cs) d) → l ≡ m
+    by true x e true t f rest rb rd = sym (is_same s.name l x) ∙ is_same s.name m t
+    by true x e false t f rest rb rd = let same : block_of p c ≡ b = cc e in let r = rd f in absurd (omega (arith, r.above, lj, at, ap (λ k. k.place) same, ap (λ k. length k.words) same))
+    by false x e true t f rest rb rd = let same : block_of p c ≡ d = cc f in let r = rb e in absurd (omega (arith, r.above, lk, at, ap (λ k. k.place) same, ap (λ k. length k.words) same))
+    by false x e false t f rest rb rd = rest e f
 
-    by : (s : Bool) → (l == n) ≡ s → (if s then Some (block_of p c) else blocks_from (n + 1) (p + length c.words.items) cs l) ≡ Some b → (t : Bool) → (m == n) ≡ t → (if t then Some (block_of p c) else blocks_from (n + 1) (p + length c.words.items) cs m) ≡ Some d
-        → (blocks_from (n + 1) (p + length c.words.items) cs l ≡ Some b → blocks_from (n + 1) (p + length c.words.items) cs m ≡ Some d → l ≡ m)
-        → (blocks_from (n + 1) (p + length c.words.items) cs l ≡ Some b → Ranged (n + 1) (p + length c.words.items) (p + length c.words.items + words_in cs) l b)
-        → (blocks_from (n + 1) (p + length c.words.items) cs m ≡ Some d → Ranged (n + 1) (p + length c.words.items) (p + length c.words.items + words_in cs) m d) → l ≡ m
-    by true s e true t f rest rb rd = is_same l n s ∙ sym (is_same m n t)
-    by true s e false t f rest rb rd = let same : block_of p c ≡ b = cc e in let r = rd f in absurd (omega (arith, r.above, lj, at, ap (λ k. k.place) same, ap (λ k. length k.words) same))
-    by false s e true t f rest rb rd = let same : block_of p c ≡ d = cc f in let r = rb e in absurd (omega (arith, r.above, lk, at, ap (λ k. k.place) same, ap (λ k. length k.words) same))
-    by false s e false t f rest rb rd = rest e f
-
-block_row : (n p : ℕ) (fs : List SimpleForm) (cs : List BlockCode) (m : ℕ) (b : Block) → AreCodes fs cs → blocks_from n p cs m ≡ Some b → (row : Row) × (find (λ r. r.name == m) (rows_from n fs) ≡ Some row)
-block_row n p [] [] m b h e = absurd (grind (arith, e))
-block_row n p [] (c ∷ cs) m b h e = absurd h
-block_row n p (f ∷ fs) [] m b h e = absurd h
-block_row n p (f ∷ fs) (c ∷ cs) m b h e = by (m == n) refl e (λ g. block_row (n + 1) (p + length c.words.items) fs cs m b h.1 g)
+block_row : (p : ℕ) (ss : List Statement) (cs : List BlockCode) (m : ℕ) (b : Block) → blocks_from p ss cs m ≡ Some b → (row : Row) × (find (λ r. r.name == m) (rows_of ss) ≡ Some row)
+block_row p [] cs m b e = absurd (grind (arith, e))
+block_row p (s ∷ ss) [] m b e = absurd (grind (arith, e))
+block_row p (s ∷ ss) (c ∷ cs) m b e = by (s.name == m) refl e (λ g. block_row (p + length c.words.items) ss cs m b g)
   where
-    by : (t : Bool) → (m == n) ≡ t → (if t then Some (block_of p c) else blocks_from (n + 1) (p + length c.words.items) cs m) ≡ Some b → (blocks_from (n + 1) (p + length c.words.items) cs m ≡ Some b → (row : Row) × (find (λ r. r.name == m) (rows_from (n + 1) fs) ≡ Some row)) → (row : Row) × (find (λ r. r.name == m) (rows_from n (f ∷ fs)) ≡ Some row)
-    by true t g rest = (record { name = n; form = f; continuation = entry_from (n + 1) fs }, ap (λ x. if x then Some (record { name = n; form = f; continuation = entry_from (n + 1) fs }) else find (λ r. r.name == m) (rows_from (n + 1) fs)) (same_test n m (sym (is_same m n t))))
-    by false t g rest =
-        let (row, found) = rest g in
-        let ne : n ≢ m = λ x. absurd (false≢true (sym t ∙ same_test m n (sym x))) in
-        (row, ap (λ x. if x then Some (record { name = n; form = f; continuation = entry_from (n + 1) fs }) else find (λ r. r.name == m) (rows_from (n + 1) fs)) (other_test n m ne) ∙ found)
+    first_row : Row
+    first_row = record { name = s.name; form = s.form; continuation = entry_of ss }
 
-block_placed : (n p : ℕ) (fs : List SimpleForm) (cs : List BlockCode) (m : ℕ) → AreCodes fs cs → placed (blocks_from n p cs m) ≡ place_from n p fs m
-block_placed n p [] [] m h = refl
-block_placed n p [] (c ∷ cs) m h = absurd h
-block_placed n p (f ∷ fs) [] m h = absurd h
-block_placed n p (f ∷ fs) (c ∷ cs) m h = by (m == n) (block_placed (n + 1) (p + length c.words.items) fs cs m h.1)
+    by : (t : Bool) → (s.name == m) ≡ t → (if t then Some (block_of p c) else blocks_from (p + length c.words.items) ss cs m) ≡ Some b → (blocks_from (p + length c.words.items) ss cs m ≡ Some b → (row : Row) × (find (λ r. r.name == m) (rows_of ss) ≡ Some row)) → (row : Row) × (find (λ r. r.name == m) (rows_of (s ∷ ss)) ≡ Some row)
+    by true t g rest = (first_row, ap (λ x. if x then Some first_row else find (λ r. r.name == m) (rows_of ss)) t)
+    by false t g rest = let (row, found) = rest g in (row, ap (λ x. if x then Some first_row else find (λ r. r.name == m) (rows_of ss)) t ∙ found)
+
+block_placed : (p : ℕ) (ss : List Statement) (cs : List BlockCode) (m : ℕ) → AreCodes ss cs → placed (blocks_from p ss cs m) ≡ place_from p ss m
+block_placed p [] [] m h = refl
+block_placed p [] (c ∷ cs) m h = absurd h
+block_placed p (s ∷ ss) [] m h = absurd h
+block_placed p (s ∷ ss) (c ∷ cs) m h = by (s.name == m) (block_placed (p + length c.words.items) ss cs m h.1)
   where
-    long : length c.words.items ≡ charge_of f
+    long : length c.words.items ≡ charge_of s.form
     long = h.0.0.long
 
-    by : (t : Bool) → placed (blocks_from (n + 1) (p + length c.words.items) cs m) ≡ place_from (n + 1) (p + length c.words.items) fs m → placed (if t then Some (block_of p c) else blocks_from (n + 1) (p + length c.words.items) cs m) ≡ (if t then Some (p, charge_of f) else place_from (n + 1) (p + charge_of f) fs m)
+    by : (t : Bool) → placed (blocks_from (p + length c.words.items) ss cs m) ≡ place_from (p + length c.words.items) ss m → placed (if t then Some (block_of p c) else blocks_from (p + length c.words.items) ss cs m) ≡ (if t then Some (p, charge_of s.form) else place_from (p + charge_of s.form) ss m)
     by true rest = ap (λ k. Some (p, k)) long
-    by false rest = rest ∙ ap (λ k. place_from (n + 1) (p + k) fs m) long
+    by false rest = rest ∙ ap (λ k. place_from (p + k) ss m) long
 
 -- ---- the whole
 
 -- what leads among the statements' blocks leads among all blocks
-leads_all : (program : BlockCode) (codes : List BlockCode) (fin : ℕ) (t : Target) (target : ℕ) → ((k : ℕ) → t ≡ GateOf k → first_name ≤ k) → LeadsTo (blocks_from first_name (first_place program) codes) fin t target → LeadsTo (all_blocks program codes) fin t target
-leads_all program codes fin (GateOf k) target later (code, e, g) =
-    let ne : k ≢ program_name = omega (arith, later k refl) in
-    (code, ap (λ b. if b then Some (block_of code_begin program) else blocks_from first_name (first_place program) codes k) (other_test k program_name ne) ∙ e, g)
-leads_all program codes fin Finish target later e = e
+leads_all : (program : BlockCode) (ss : List Statement) (codes : List BlockCode) (fin : ℕ) (t : Target) (target : ℕ) → ((k : ℕ) → t ≡ GateOf k → program_name ≢ k) → LeadsTo (blocks_from (first_place program) ss codes) fin t target → LeadsTo (all_blocks program ss codes) fin t target
+leads_all program ss codes fin (GateOf k) target other (code, e, g) =
+    let ne : k ≢ program_name = λ x. other k refl (sym x) in
+    (code, ap (λ b. if b then Some (block_of code_begin program) else blocks_from (first_place program) ss codes k) (other_test k program_name ne) ∙ e, g)
+leads_all program ss codes fin Finish target other e = e
 
-module _ (fs : List SimpleForm) (program : BlockCode) (codes : List BlockCode) (is : IsCodeOf ProgramBlock program) (parts : IsProgramCode program) (are : AreCodes fs codes) (room : program_charge + charges_of fs ≤ 10240) where
+module _ (ss : List Statement) (program : BlockCode) (codes : List BlockCode) (valid : IsProgram ss) (is : IsCodeOf ProgramBlock program) (parts : IsProgramCode program) (are : AreCodes ss codes) where
   abbrev P : Program
-  P = program_of fs
+  P = program_of ss
 
   abbrev es : ℕ → Option Block
-  es = all_blocks program codes
+  es = all_blocks program ss codes
 
   abbrev fin : ℕ
   fin = finish_place program
@@ -119,10 +116,10 @@ module _ (fs : List SimpleForm) (program : BlockCode) (codes : List BlockCode) (
       by (inr e) = absurd e
 
   words_room : first_place program + words_in codes ≤ globals_begin
-  words_room = omega (arith, is.long, codes_long fs codes are, room)
+  words_room = omega (arith, is.long, codes_long ss codes are, valid.fits)
 
   program_leads : LeadsTo es fin P.entry (next_place (first_place program) fin codes)
-  program_leads = leads_all program codes fin (entry_from first_name fs) (next_place (first_place program) fin codes) (entry_later first_name fs) (entry_leads first_name (first_place program) fin fs codes are)
+  program_leads = leads_all program ss codes fin (entry_of ss) (next_place (first_place program) fin codes) (λ k. entry_free program_name ss k valid.free) (entry_leads (first_place program) fin ss codes are)
 
   program_lies : (mem : List ℕ) → HasAt mem code_begin (laid_to program (next_place (first_place program) fin codes)) → Lies simple (blocks_of P) es (λ n. false) mem program_name ProgramBlock
   program_lies mem here =
@@ -143,9 +140,9 @@ module _ (fs : List SimpleForm) (program : BlockCode) (codes : List BlockCode) (
 
   statement_lies : (mem : List ℕ) (m : ℕ) (row : Row) → (m == program_name) ≡ false → row_of P m ≡ Some row → HasAt mem (first_place program) (statements_laid (first_place program) fin codes) → Lies simple (blocks_of P) es (λ n. false) mem m (StatementBlock row.form)
   statement_lies mem m row other e here =
-      let f = statement_found first_name (first_place program) fin fs codes mem m row are here e in
-      let l = found_later first_name fs m row e in
-      let leads = leads_all program codes fin row.continuation f.target l.after f.leads in
+      let f = statement_found (first_place program) fin ss codes mem m row valid.differ are here e in
+      let l = found_apart program_name ss m row valid.free e in
+      let leads = leads_all program ss codes fin row.continuation f.target l.after f.leads in
       let q : LinkTo → ℕ = λ to. place_of es ((blocks_of P).link_end m to) in
       let spot : (to : LinkTo) → (blocks_of P).link_end m to ≡ spot_of row.continuation = λ to. ap (λ b. if b then spot_of P.entry else end_of (row_of P m)) other ∙ ap end_of e in
       let link = f.parts.link in
@@ -154,7 +151,7 @@ module _ (fs : List SimpleForm) (program : BlockCode) (codes : List BlockCode) (
       let words : laid (block_of f.place f.code) 160 q ≡ laid_to f.code f.target = ap (λ ws. linked ws (map link_of f.code.links.items) q) (gate_set f.code f.parts some) ∙ one_link f.code.words.items f.code.links.items link.link q f.target link.only at in
       record {
         block = block_of f.place f.code;
-        entry = ap (λ b. if b then Some (block_of code_begin program) else blocks_from first_name (first_place program) codes m) other ∙ f.entry;
+        entry = ap (λ b. if b then Some (block_of code_begin program) else blocks_from (first_place program) ss codes m) other ∙ f.entry;
         is = f.is.block f.place;
         implements = f.is.implements f.place;
         below = omega (arith, f.below, words_room);
@@ -185,45 +182,45 @@ module _ (fs : List SimpleForm) (program : BlockCode) (codes : List BlockCode) (
   only : (n : ℕ) (b : Block) → es n ≡ Some b → (f : BlockForm) × ((blocks_of P).form n ≡ Some f)
   only n b e = by (n == program_name) refl e
     where
-      by : (t : Bool) → (n == program_name) ≡ t → (if t then Some (block_of code_begin program) else blocks_from first_name (first_place program) codes n) ≡ Some b → (f : BlockForm) × ((blocks_of P).form n ≡ Some f)
+      by : (t : Bool) → (n == program_name) ≡ t → (if t then Some (block_of code_begin program) else blocks_from (first_place program) ss codes n) ≡ Some b → (f : BlockForm) × ((blocks_of P).form n ≡ Some f)
       by true t h = (ProgramBlock, ap (λ x. if x then Some ProgramBlock else form_of (row_of P n)) t)
-      by false t h = let (row, found) = block_row first_name (first_place program) fs codes n b are h in (StatementBlock row.form, ap (λ x. if x then Some ProgramBlock else form_of (row_of P n)) t ∙ ap form_of found)
+      by false t h = let (row, found) = block_row (first_place program) ss codes n b h in (StatementBlock row.form, ap (λ x. if x then Some ProgramBlock else form_of (row_of P n)) t ∙ ap form_of found)
 
   apart : (m n : ℕ) (b d : Block) (j k : ℕ) → es m ≡ Some b → es n ≡ Some d → j < length b.words → k < length d.words → b.place + j ≡ d.place + k → m ≡ n
   apart m n b d j k e f lj lk at = by (m == program_name) refl e (n == program_name) refl f
     where
-      by : (s : Bool) → (m == program_name) ≡ s → (if s then Some (block_of code_begin program) else blocks_from first_name (first_place program) codes m) ≡ Some b → (t : Bool) → (n == program_name) ≡ t → (if t then Some (block_of code_begin program) else blocks_from first_name (first_place program) codes n) ≡ Some d → m ≡ n
+      by : (s : Bool) → (m == program_name) ≡ s → (if s then Some (block_of code_begin program) else blocks_from (first_place program) ss codes m) ≡ Some b → (t : Bool) → (n == program_name) ≡ t → (if t then Some (block_of code_begin program) else blocks_from (first_place program) ss codes n) ≡ Some d → m ≡ n
       by true s g true t h = is_same m program_name s ∙ sym (is_same n program_name t)
-      by true s g false t h = let same : block_of code_begin program ≡ b = cc g in let r = block_ranged first_name (first_place program) codes n d h in absurd (omega (arith, r.above, lj, at, ap (λ k. k.place) same, ap (λ k. length k.words) same))
-      by false s g true t h = let same : block_of code_begin program ≡ d = cc h in let r = block_ranged first_name (first_place program) codes m b g in absurd (omega (arith, r.above, lk, at, ap (λ k. k.place) same, ap (λ k. length k.words) same))
-      by false s g false t h = blocks_apart first_name (first_place program) codes m n b d j k g h lj lk at
+      by true s g false t h = let same : block_of code_begin program ≡ b = cc g in let r = block_ranged (first_place program) ss codes n d h in absurd (omega (arith, r.above, lj, at, ap (λ k. k.place) same, ap (λ k. length k.words) same))
+      by false s g true t h = let same : block_of code_begin program ≡ d = cc h in let r = block_ranged (first_place program) ss codes m b g in absurd (omega (arith, r.above, lk, at, ap (λ k. k.place) same, ap (λ k. length k.words) same))
+      by false s g false t h = blocks_apart (first_place program) ss codes m n b d j k g h lj lk at
 
-  all_placed : (n : ℕ) → placed (es n) ≡ load.place_of fs n
+  all_placed : (n : ℕ) → placed (es n) ≡ load.place_of ss n
   all_placed n = by (n == program_name)
     where
       at : first_place program ≡ code_begin + program_charge
       at = omega (arith, is.long)
 
-      by : (t : Bool) → placed (if t then Some (block_of code_begin program) else blocks_from first_name (first_place program) codes n) ≡ (if t then Some (code_begin, program_charge) else place_from first_name (code_begin + program_charge) fs n)
+      by : (t : Bool) → placed (if t then Some (block_of code_begin program) else blocks_from (first_place program) ss codes n) ≡ (if t then Some (code_begin, program_charge) else place_from (code_begin + program_charge) ss n)
       by true = ap (λ k. Some (code_begin, k)) is.long
-      by false = block_placed first_name (first_place program) fs codes n are ∙ ap (λ k. place_from first_name k fs n) at
+      by false = block_placed (first_place program) ss codes n are ∙ ap (λ k. place_from k ss n) at
 
   -- a gate is the first word of its block
-  gates_first : (n p : ℕ) (fs : List SimpleForm) (cs : List BlockCode) (m : ℕ) (b : Block) (k : ℕ) → AreCodes fs cs → blocks_from n p cs m ≡ Some b → b.part_at Gate ≡ Some k → k ≡ 0
-  gates_first n p fs [] m b k h e g = absurd (grind (arith, e))
-  gates_first n p [] (c ∷ cs) m b k h e g = absurd h
-  gates_first n p (f ∷ fs) (c ∷ cs) m b k h e g = by (m == n) e (λ x. gates_first (n + 1) (p + length c.words.items) fs cs m b k h.1 x g)
+  gates_first : (p : ℕ) (ss : List Statement) (cs : List BlockCode) (m : ℕ) (b : Block) (k : ℕ) → AreCodes ss cs → blocks_from p ss cs m ≡ Some b → b.part_at Gate ≡ Some k → k ≡ 0
+  gates_first p [] cs m b k h e g = absurd (grind (arith, e))
+  gates_first p (s ∷ ss) [] m b k h e g = absurd h
+  gates_first p (s ∷ ss) (c ∷ cs) m b k h e g = by (s.name == m) e (λ x. gates_first (p + length c.words.items) ss cs m b k h.1 x g)
     where
-      by : (t : Bool) → (if t then Some (block_of p c) else blocks_from (n + 1) (p + length c.words.items) cs m) ≡ Some b → (blocks_from (n + 1) (p + length c.words.items) cs m ≡ Some b → k ≡ 0) → k ≡ 0
+      by : (t : Bool) → (if t then Some (block_of p c) else blocks_from (p + length c.words.items) ss cs m) ≡ Some b → (blocks_from (p + length c.words.items) ss cs m ≡ Some b → k ≡ 0) → k ≡ 0
       by true x rest = let same : block_of p c ≡ b = cc x in let y : Some 0 ≡ Some k = sym h.0.1.gate ∙ ap (λ z. z.part_at Gate) same ∙ g in cc y
       by false x rest = rest x
 
   all_gates : (n : ℕ) (b : Block) (k : ℕ) → es n ≡ Some b → b.part_at Gate ≡ Some k → k ≡ 0
   all_gates n b k e g = by (n == program_name) e
     where
-      by : (t : Bool) → (if t then Some (block_of code_begin program) else blocks_from first_name (first_place program) codes n) ≡ Some b → k ≡ 0
+      by : (t : Bool) → (if t then Some (block_of code_begin program) else blocks_from (first_place program) ss codes n) ≡ Some b → k ≡ 0
       by true x = let same : block_of code_begin program ≡ b = cc x in let y : None ≡ Some k = sym parts.gate ∙ ap (λ z. z.part_at Gate) same ∙ g in absurd (grind (arith, y))
-      by false x = gates_first first_name (first_place program) fs codes n b k are x g
+      by false x = gates_first (first_place program) ss codes n b k are x g
 
   -- the first word is that of the program's block
   first_word : slice_index (image_words program codes) 0 ≡ slice_index program.words.items 0
@@ -235,11 +232,11 @@ module _ (fs : List SimpleForm) (program : BlockCode) (codes : List BlockCode) (
       ∙ ap (λ ls. slice_index (linked program.words.items (map link_of ls) (λ to. target)) 0) link.only
       ∙ get_or-set_other program.words.items link.link.offset 0 (2 * target) 0 ne
 
-  pub is_load : (words : List ℕ) → words ≡ image_words program codes → IsLoad fs words
+  pub is_load : (words : List ℕ) → words ≡ image_words program codes → IsLoad ss words
   is_load words e =
       let target = next_place (first_place program) fin codes in
       record {
-        long = ap length e ∙ omega (arith, length-append (laid_to program target) (statements_laid (first_place program) fin codes), laid_long program target, statements_long (first_place program) fin codes, is.long, codes_long fs codes are);
+        long = ap length e ∙ omega (arith, length-append (laid_to program target) (statements_laid (first_place program) fin codes), laid_long program target, statements_long (first_place program) fin codes, is.long, codes_long ss codes are);
         blocks = es;
         places = all_placed;
         parts = record { program = block_of code_begin program; entry = program_entry; begin = ap first_of parts.gate; gates = all_gates };

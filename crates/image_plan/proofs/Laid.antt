@@ -10,21 +10,22 @@ use Rattle.code_image.specs.declared.block.BlockCode.{BlockCode}
 use Rattle.code_image.specs.Block.{Block, linked, set_at}
 use Rattle.code_image.specs.BlockOf.{block_of, link_of}
 use Rattle.code_image.proofs.Stretch.{length_linked}
-use Rattle.pascal_semantics.specs.declared.form.SimpleForm.{SimpleForm}
-use Rattle.pascal_semantics.specs.Program.{Target, Gate as GateOf, Finish, Row, rows_from, entry_from, first_name}
+use Rattle.pascal_semantics.specs.declared.form.Statement.{Statement}
+use Rattle.pascal_semantics.specs.Program.{Target, Gate as GateOf, Finish, Row, rows_of, entry_of}
+use Rattle.pascal_semantics.specs.Valid.{program_name, IsFree, AllDiffer}
 use Rattle.statement_code.specs.Forms.{StatementBlock}
 use Rattle.statement_code.specs.Emitted.{IsCodeOf, IsStatementCode}
-use Rattle.image_plan.specs.Links.{program_name}
 use Rattle.image_plan.specs.Codes.{AreCodes, laid_to, next_place, statements_laid, first_place, words_in}
 
 -- ---- the blocks by name
 
-abbrev pub blocks_from : ℕ → ℕ → List BlockCode → ℕ → Option Block
-blocks_from n p [] m = None
-blocks_from n p (c ∷ cs) m = if m == n then Some (block_of p c) else blocks_from (n + 1) (p + length c.words.items) cs m
+abbrev pub blocks_from : ℕ → List Statement → List BlockCode → ℕ → Option Block
+blocks_from p [] cs m = None
+blocks_from p (s ∷ ss) [] m = None
+blocks_from p (s ∷ ss) (c ∷ cs) m = if s.name == m then Some (block_of p c) else blocks_from (p + length c.words.items) ss cs m
 
-abbrev pub all_blocks : BlockCode → List BlockCode → ℕ → Option Block
-all_blocks program codes m = if m == program_name then Some (block_of code_begin program) else blocks_from first_name (first_place program) codes m
+abbrev pub all_blocks : BlockCode → List Statement → List BlockCode → ℕ → Option Block
+all_blocks program ss codes m = if m == program_name then Some (block_of code_begin program) else blocks_from (first_place program) ss codes m
 
 pub same_test : (m n : ℕ) → m ≡ n → (m == n) ≡ true
 same_test m n e = grind (arith, nat_tests)
@@ -82,42 +83,41 @@ pub record Found (es : ℕ → Option Block) (mem : List ℕ) (low high fin m : 
   pub below : place + length code.words.items ≤ high
 
 -- the first block of a list is where its entry leads
-pub entry_leads : (n p fin : ℕ) (fs : List SimpleForm) (cs : List BlockCode) → AreCodes fs cs → LeadsTo (blocks_from n p cs) fin (entry_from n fs) (next_place p fin cs)
-entry_leads n p fin [] [] h = refl
-entry_leads n p fin [] (c ∷ cs) h = absurd h
-entry_leads n p fin (f ∷ fs) [] h = absurd h
-entry_leads n p fin (f ∷ fs) (c ∷ cs) h = (c, ap (λ b. if b then Some (block_of p c) else blocks_from (n + 1) (p + length c.words.items) cs n) (same_test n n refl), h.0.1.gate)
+pub entry_leads : (p fin : ℕ) (ss : List Statement) (cs : List BlockCode) → AreCodes ss cs → LeadsTo (blocks_from p ss cs) fin (entry_of ss) (next_place p fin cs)
+entry_leads p fin [] [] h = refl
+entry_leads p fin [] (c ∷ cs) h = absurd h
+entry_leads p fin (s ∷ ss) [] h = absurd h
+entry_leads p fin (s ∷ ss) (c ∷ cs) h = (c, ap (λ b. if b then Some (block_of p c) else blocks_from (p + length c.words.items) ss cs s.name) (same_test s.name s.name refl), h.0.1.gate)
 
 -- what leads on among the later blocks does so among all
-leads_later : (n p fin : ℕ) (c : BlockCode) (cs : List BlockCode) (t : Target) (target : ℕ) → ((k : ℕ) → t ≡ GateOf k → n + 1 ≤ k) → LeadsTo (blocks_from (n + 1) (p + length c.words.items) cs) fin t target → LeadsTo (blocks_from n p (c ∷ cs)) fin t target
-leads_later n p fin c cs (GateOf k) target later (code, e, g) =
-    let ne : k ≢ n = omega (arith, later k refl) in
-    (code, ap (λ b. if b then Some (block_of p c) else blocks_from (n + 1) (p + length c.words.items) cs k) (other_test k n ne) ∙ e, g)
-leads_later n p fin c cs Finish target later e = e
+leads_later : (p fin : ℕ) (s : Statement) (ss : List Statement) (c : BlockCode) (cs : List BlockCode) (t : Target) (target : ℕ) → ((k : ℕ) → t ≡ GateOf k → s.name ≢ k) → LeadsTo (blocks_from (p + length c.words.items) ss cs) fin t target → LeadsTo (blocks_from p (s ∷ ss) (c ∷ cs)) fin t target
+leads_later p fin s ss c cs (GateOf k) target other (code, e, g) = (code, ap (λ b. if b then Some (block_of p c) else blocks_from (p + length c.words.items) ss cs k) (other_test s.name k (other k refl)) ∙ e, g)
+leads_later p fin s ss c cs Finish target other e = e
 
-pub entry_later : (n : ℕ) (fs : List SimpleForm) (k : ℕ) → entry_from n fs ≡ GateOf k → n ≤ k
-entry_later n [] k e = absurd (grind (arith, e))
-entry_later n (f ∷ fs) k e = let same : n ≡ k = cc e in omega (arith, same)
+-- a list's entry is none of the names that are free in it
+pub entry_free : (n : ℕ) (ss : List Statement) (k : ℕ) → IsFree n ss → entry_of ss ≡ GateOf k → n ≢ k
+entry_free n [] k free e = absurd (grind (arith, e))
+entry_free n (s ∷ ss) k free e = let same : s.name ≡ k = cc e in λ x. free.0 (same ∙ sym x)
 
--- the name and the continuation of a row that is found
-pub record Later (n m : ℕ) (row : Row) : Type 0 where
-  pub name : n ≤ m
-  pub after : (k : ℕ) → row.continuation ≡ GateOf k → n ≤ k
+-- a row's name and its continuation are others than this one
+pub record Apart (n m : ℕ) (row : Row) : Type 0 where
+  pub name : n ≢ m
+  pub after : (k : ℕ) → row.continuation ≡ GateOf k → n ≢ k
 
-pub found_later : (n : ℕ) (fs : List SimpleForm) (m : ℕ) (row : Row) → find (λ r. r.name == m) (rows_from n fs) ≡ Some row → Later n m row
-found_later n [] m row e = absurd (grind (arith, e))
-found_later n (f ∷ fs) m row e = by (n == m) refl e (λ f. found_later (n + 1) fs m row f)
+pub found_apart : (n : ℕ) (ss : List Statement) (m : ℕ) (row : Row) → IsFree n ss → find (λ r. r.name == m) (rows_of ss) ≡ Some row → Apart n m row
+found_apart n [] m row free e = absurd (grind (arith, e))
+found_apart n (s ∷ ss) m row free e = by (s.name == m) refl e (λ f. found_apart n ss m row free.1 f)
   where
-    by : (b : Bool) → (n == m) ≡ b → (if b then Some (record { name = n; form = f; continuation = entry_from (n + 1) fs }) else find (λ r. r.name == m) (rows_from (n + 1) fs)) ≡ Some row → (find (λ r. r.name == m) (rows_from (n + 1) fs) ≡ Some row → Later (n + 1) m row) → Later n m row
+    by : (b : Bool) → (s.name == m) ≡ b → (if b then Some (record { name = s.name; form = s.form; continuation = entry_of ss }) else find (λ r. r.name == m) (rows_of ss)) ≡ Some row → (find (λ r. r.name == m) (rows_of ss) ≡ Some row → Apart n m row) → Apart n m row
     by true t h rest =
-        let same : record { name = n; form = f; continuation = entry_from (n + 1) fs } ≡ row = cc h in
-        record { name = omega (arith, is_same n m t); after = λ k g. omega (arith, entry_later (n + 1) fs k (ap (λ r. r.continuation) same ∙ g)) }
-    by false t h rest = let l = rest h in record { name = omega (arith, l.name); after = λ k g. omega (arith, l.after k g) }
+        let same : record { name = s.name; form = s.form; continuation = entry_of ss } ≡ row = cc h in
+        record { name = λ x. free.0 (is_same s.name m t ∙ sym x); after = λ k g. entry_free n ss k free.1 (ap (λ r. r.continuation) same ∙ g) }
+    by false t h rest = rest h
 
-pub statement_found : (n p fin : ℕ) (fs : List SimpleForm) (cs : List BlockCode) (mem : List ℕ) (m : ℕ) (row : Row) → AreCodes fs cs → HasAt mem p (statements_laid p fin cs) → find (λ r. r.name == m) (rows_from n fs) ≡ Some row → Found (blocks_from n p cs) mem p (p + words_in cs) fin m row
-statement_found n p fin [] cs mem m row h has e = absurd (grind (arith, e))
-statement_found n p fin (f ∷ fs) [] mem m row h has e = absurd h
-statement_found n p fin (f ∷ fs) (c ∷ cs) mem m row h has e = by (n == m) refl e (λ g. (statement_found (n + 1) (p + length c.words.items) fin fs cs mem m row h.1 later g, found_later (n + 1) fs m row g))
+pub statement_found : (p fin : ℕ) (ss : List Statement) (cs : List BlockCode) (mem : List ℕ) (m : ℕ) (row : Row) → AllDiffer ss → AreCodes ss cs → HasAt mem p (statements_laid p fin cs) → find (λ r. r.name == m) (rows_of ss) ≡ Some row → Found (blocks_from p ss cs) mem p (p + words_in cs) fin m row
+statement_found p fin [] cs mem m row d h has e = absurd (grind (arith, e))
+statement_found p fin (s ∷ ss) [] mem m row d h has e = absurd h
+statement_found p fin (s ∷ ss) (c ∷ cs) mem m row d h has e = by (s.name == m) refl e (λ g. (statement_found (p + length c.words.items) fin ss cs mem m row d.1 h.1 later g, found_apart s.name ss m row d.0 g))
   where
     target : ℕ
     target = next_place (p + length c.words.items) fin cs
@@ -128,36 +128,34 @@ statement_found n p fin (f ∷ fs) (c ∷ cs) mem m row h has e = by (n == m) re
     later : HasAt mem (p + length c.words.items) (statements_laid (p + length c.words.items) fin cs)
     later = subst (λ k. HasAt mem (p + k) (statements_laid (p + length c.words.items) fin cs)) (laid_long c target) (has_back mem p (laid_to c target) (statements_laid (p + length c.words.items) fin cs) has)
 
-    by : (b : Bool) → (n == m) ≡ b → (if b then Some (record { name = n; form = f; continuation = entry_from (n + 1) fs }) else find (λ r. r.name == m) (rows_from (n + 1) fs)) ≡ Some row
-        → (find (λ r. r.name == m) (rows_from (n + 1) fs) ≡ Some row → Found (blocks_from (n + 1) (p + length c.words.items) cs) mem (p + length c.words.items) (p + length c.words.items + words_in cs) fin m row × Later (n + 1) m row)
-        → Found (blocks_from n p (c ∷ cs)) mem p (p + words_in (c ∷ cs)) fin m row
+    by : (b : Bool) → (s.name == m) ≡ b → (if b then Some (record { name = s.name; form = s.form; continuation = entry_of ss }) else find (λ r. r.name == m) (rows_of ss)) ≡ Some row
+        → (find (λ r. r.name == m) (rows_of ss) ≡ Some row → Found (blocks_from (p + length c.words.items) ss cs) mem (p + length c.words.items) (p + length c.words.items + words_in cs) fin m row × Apart s.name m row)
+        → Found (blocks_from p (s ∷ ss) (c ∷ cs)) mem p (p + words_in (c ∷ cs)) fin m row
     by true t g rest =
-        let same : record { name = n; form = f; continuation = entry_from (n + 1) fs } ≡ row = cc g in
-        let name : m ≡ n = sym (is_same n m t) in
+        let same : record { name = s.name; form = s.form; continuation = entry_of ss } ≡ row = cc g in
         record {
           code = c;
           place = p;
-          entry = ap (λ b. if b then Some (block_of p c) else blocks_from (n + 1) (p + length c.words.items) cs m) (same_test m n name);
+          entry = ap (λ b. if b then Some (block_of p c) else blocks_from (p + length c.words.items) ss cs m) t;
           is = subst (λ r. IsCodeOf (StatementBlock r.form) c) same h.0.0;
           parts = h.0.1;
           target = target;
           here = here;
-          leads = subst (λ r. LeadsTo (blocks_from n p (c ∷ cs)) fin r.continuation target) same (leads_later n p fin c cs (entry_from (n + 1) fs) target (entry_later (n + 1) fs) (entry_leads (n + 1) (p + length c.words.items) fin fs cs h.1));
+          leads = subst (λ r. LeadsTo (blocks_from p (s ∷ ss) (c ∷ cs)) fin r.continuation target) same (leads_later p fin s ss c cs (entry_of ss) target (λ k. entry_free s.name ss k d.0) (entry_leads (p + length c.words.items) fin ss cs h.1));
           above = omega arith;
           below = omega arith;
         }
     by false t g rest =
         let (found, l) = rest g in
-        let ne : m ≢ n = omega (arith, l.name) in
         record {
           code = found.code;
           place = found.place;
-          entry = ap (λ b. if b then Some (block_of p c) else blocks_from (n + 1) (p + length c.words.items) cs m) (other_test m n ne) ∙ found.entry;
+          entry = ap (λ b. if b then Some (block_of p c) else blocks_from (p + length c.words.items) ss cs m) t ∙ found.entry;
           is = found.is;
           parts = found.parts;
           target = found.target;
           here = found.here;
-          leads = leads_later n p fin c cs row.continuation found.target l.after found.leads;
+          leads = leads_later p fin s ss c cs row.continuation found.target l.after found.leads;
           above = omega (arith, found.above);
           below = omega (arith, found.below);
         }

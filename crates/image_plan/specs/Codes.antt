@@ -5,7 +5,7 @@ use Rattle.console_service.specs.Cpu.{code_begin}
 use Rattle.code_image.specs.declared.block.BlockCode.{BlockCode}
 use Rattle.code_image.specs.Block.{linked, or_zero}
 use Rattle.code_image.specs.BlockOf.{link_of}
-use Rattle.pascal_semantics.specs.declared.form.SimpleForm.{SimpleForm}
+use Rattle.pascal_semantics.specs.declared.form.Statement.{Statement}
 use Rattle.statement_code.specs.Forms.{StatementBlock}
 use Rattle.statement_code.specs.Emitted.{IsCodeOf, IsStatementCode}
 
@@ -18,11 +18,11 @@ AllHaveOneLink [] = Unit {0}
 AllHaveOneLink (c ∷ cs) = HasOneLink c × AllHaveOneLink cs
 
 -- the block of each statement
-abbrev pub AreCodes : List SimpleForm → List BlockCode → Type 0
+abbrev pub AreCodes : List Statement → List BlockCode → Type 0
 AreCodes [] [] = Unit {0}
 AreCodes [] (c ∷ cs) = ⊥
-AreCodes (f ∷ fs) [] = ⊥
-AreCodes (f ∷ fs) (c ∷ cs) = (IsCodeOf (StatementBlock f) c × IsStatementCode c) × AreCodes fs cs
+AreCodes (s ∷ ss) [] = ⊥
+AreCodes (s ∷ ss) (c ∷ cs) = (IsCodeOf (StatementBlock s.form) c × IsStatementCode c) × AreCodes ss cs
 
 -- the words of a block whose link leads to this word number
 abbrev pub laid_to : BlockCode → ℕ → List ℕ

@@ -3,21 +3,22 @@ use Rattle.std.specs.Prelude.{◌≡◌, ℕ, ◌+◌, ◌==◌, if◌then◌els
 use Rattle.console_service.specs.Cpu.{HasAt, code_begin, memory_end}
 use Rattle.code_image.specs.Block.{First, Gate, Block}
 use Rattle.code_image.specs.Image.{HasImage}
-use Rattle.pascal_semantics.specs.declared.form.SimpleForm.{SimpleForm}
+use Rattle.pascal_semantics.specs.declared.form.Statement.{Statement}
 use Rattle.pascal_semantics.specs.Charge.{charge_of, program_charge, charges_of}
-use Rattle.pascal_semantics.specs.Program.{program_of, first_name}
+use Rattle.pascal_semantics.specs.Program.{program_of}
+use Rattle.pascal_semantics.specs.Valid.{program_name}
 use Rattle.statement_code.specs.Forms.{simple}
 use Rattle.statement_code.specs.Emitted.{IsNoGate}
-use Rattle.image_plan.specs.Links.{blocks_of, program_name}
+use Rattle.image_plan.specs.Links.{blocks_of}
 
 -- the place of a statement's block, as a word number: behind those of the statements before it
-abbrev pub place_from : ℕ → ℕ → List SimpleForm → ℕ → Option (ℕ × ℕ)
-place_from n p [] m = None
-place_from n p (f ∷ fs) m = if m == n then Some (p, charge_of f) else place_from (n + 1) (p + charge_of f) fs m
+abbrev pub place_from : ℕ → List Statement → ℕ → Option (ℕ × ℕ)
+place_from p [] m = None
+place_from p (s ∷ ss) m = if s.name == m then Some (p, charge_of s.form) else place_from (p + charge_of s.form) ss m
 
 -- where the block of a name lies, and how many words it has
-abbrev pub place_of : List SimpleForm → ℕ → Option (ℕ × ℕ)
-place_of fs m = if m == program_name then Some (code_begin, program_charge) else place_from first_name (code_begin + program_charge) fs m
+abbrev pub place_of : List Statement → ℕ → Option (ℕ × ℕ)
+place_of ss m = if m == program_name then Some (code_begin, program_charge) else place_from (code_begin + program_charge) ss m
 
 abbrev pub placed : Option Block → Option (ℕ × ℕ)
 placed None = None
@@ -31,10 +32,10 @@ pub record HasParts (blocks : ℕ → Option Block) : Type 0 where
   pub gates : (n : ℕ) (b : Block) (k : ℕ) → blocks n ≡ Some b → b.part_at Gate ≡ Some k → k ≡ 0
 
 -- these words, laid from byte 512 on, are the program's blocks, each at its place, with no break set
-pub record IsLoad (fs : List SimpleForm) (words : List ℕ) : Type 0 where
-  pub long : length words ≡ program_charge + charges_of fs
+pub record IsLoad (ss : List Statement) (words : List ℕ) : Type 0 where
+  pub long : length words ≡ program_charge + charges_of ss
   pub blocks : ℕ → Option Block
-  pub places : (n : ℕ) → placed (blocks n) ≡ place_of fs n
+  pub places : (n : ℕ) → placed (blocks n) ≡ place_of ss n
   pub parts : HasParts blocks
   pub first : IsNoGate (slice_index words 0)
-  pub image : (mem : List ℕ) → length mem ≡ memory_end → HasAt mem code_begin words → HasImage simple (blocks_of (program_of fs)) blocks (λ n. false) mem
+  pub image : (mem : List ℕ) → length mem ≡ memory_end → HasAt mem code_begin words → HasImage simple (blocks_of (program_of ss)) blocks (λ n. false) mem

@@ -1,8 +1,12 @@
 use super::*;
-use statement_code::{Operand, SimpleForm, Sum};
+use statement_code::{Operand, SimpleForm, Statement, Sum};
 use std::test::Fail;
 
 // The program's block is 32 words from word 256 on, its link word the 16th and its end part the 17th, counted from 0.
+
+fn named(name: u32, form: SimpleForm) -> Statement {
+    Statement { name, form }
+}
 
 #[test]
 fn loads_no_statement(rt: HostRuntime) -> Result<(), Fail> {
@@ -18,7 +22,7 @@ fn loads_one_statement(rt: HostRuntime) -> Result<(), Fail> {
         first: Operand::Number(7),
         second: None,
     };
-    let words = load_words(rt.alloc(), &[SimpleForm::Assign(0, seven)])?;
+    let words = load_words(rt.alloc(), &[named(4, SimpleForm::Assign(0, seven))])?;
     assert_eq!(rt; words.len(), 68);
     for (at, word) in [
         (16, 576),
@@ -46,15 +50,21 @@ fn loads_statements_in_text_order(rt: HostRuntime) -> Result<(), Fail> {
         first: Operand::Global(1),
         second: None,
     };
-    let forms = [
-        SimpleForm::Assign(0, seven),
-        SimpleForm::Assign(1, next),
-        SimpleForm::WriteLine(last, None),
+    let statements = [
+        named(4, SimpleForm::Assign(0, seven)),
+        named(7, SimpleForm::Assign(1, next)),
+        named(5, SimpleForm::WriteLine(last, None)),
+        named(6, SimpleForm::Empty),
     ];
-    let words = load_words(rt.alloc(), &forms)?;
-    assert_eq!(rt; words.len(), 184);
-    let gates = [(32, 0o000240), (68, 0o000240), (132, 0o000240)];
-    let links = [(16, 576), (38, 648), (82, 776), (141, 546)];
+    let words = load_words(rt.alloc(), &statements)?;
+    assert_eq!(rt; words.len(), 192);
+    let gates = [
+        (32, 0o000240),
+        (68, 0o000240),
+        (132, 0o000240),
+        (184, 0o000240),
+    ];
+    let links = [(16, 576), (38, 648), (82, 776), (141, 880), (186, 546)];
     for (at, word) in gates.into_iter().chain(links) {
         assert_eq!(rt; words.get(at), Some(&word), "at {at}");
     }

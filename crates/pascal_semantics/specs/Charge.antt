@@ -4,7 +4,8 @@ use Rattle.pascal_semantics.specs.declared.form.Operand.{Operand}
 use Rattle.pascal_semantics.specs.declared.form.Operand.TheVariants.{Global, Number}
 use Rattle.pascal_semantics.specs.declared.form.Sum.{Sum}
 use Rattle.pascal_semantics.specs.declared.form.SimpleForm.{SimpleForm}
-use Rattle.pascal_semantics.specs.declared.form.SimpleForm.TheVariants.{Assign, WriteLine}
+use Rattle.pascal_semantics.specs.declared.form.SimpleForm.TheVariants.{Assign, WriteLine, Empty}
+use Rattle.pascal_semantics.specs.declared.form.Statement.{Statement}
 
 -- the place of a global variable
 abbrev pub place_charge : ℕ
@@ -30,12 +31,13 @@ width_charge (Some w) = 4
 abbrev pub charge_of : SimpleForm → ℕ
 charge_of (Assign g e) = 24 + place_charge + sum_charge e
 charge_of (WriteLine e w) = 16 + 24 + sum_charge e + width_charge w
+charge_of Empty = 8
 
 -- the words of the program's block
 abbrev pub program_charge : ℕ
 program_charge = 32
 
 -- the words of all statements
-abbrev pub charges_of : List SimpleForm → ℕ
+abbrev pub charges_of : List Statement → ℕ
 charges_of [] = 0
-charges_of (f ∷ fs) = charge_of f + charges_of fs
+charges_of (s ∷ ss) = charge_of s.form + charges_of ss

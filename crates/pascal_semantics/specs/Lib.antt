@@ -4,3 +4,4 @@ pub mod State
 pub mod Step
 pub mod Outcome
 pub mod Run
+pub mod Valid

@@ -6,7 +6,7 @@ use Rattle.dice_base.specs.Word.{signed_value}
 use Rattle.pascal_semantics.specs.declared.form.Operand.{Operand}
 use Rattle.pascal_semantics.specs.declared.form.Operand.TheVariants.{Global, Number}
 use Rattle.pascal_semantics.specs.declared.form.SimpleForm.{SimpleForm}
-use Rattle.pascal_semantics.specs.declared.form.SimpleForm.TheVariants.{Assign, WriteLine}
+use Rattle.pascal_semantics.specs.declared.form.SimpleForm.TheVariants.{Assign, WriteLine, Empty}
 use Rattle.pascal_semantics.specs.Program.{Target, Gate, Finish, Program, Row, row_of}
 use Rattle.pascal_semantics.specs.State.{Status, Halted, Ended, Failed, Node, OfStatement, OfSum, OfOperand, PendingFrame, Activation, State}
 
@@ -18,6 +18,7 @@ second_part (Some b) = OfOperand b ∷ []
 abbrev pub parts_of : Node → List Node
 parts_of (OfStatement (Assign g e)) = OfSum e ∷ []
 parts_of (OfStatement (WriteLine e w)) = OfSum e ∷ []
+parts_of (OfStatement Empty) = []
 parts_of (OfSum e) = OfOperand e.first ∷ second_part e.second
 parts_of (OfOperand o) = []
 
@@ -74,10 +75,11 @@ abbrev pub width_of : Option ℕ → ℕ
 width_of None = 8
 width_of (Some w) = w
 
--- what a statement does with the value of its part
+-- what a statement does with the value of its part; the empty statement has none, and does nothing (6.8.2.1)
 abbrev pub effect_of : SimpleForm → ℕ → State → State
 effect_of (Assign g e) word s = record s { globals = slice_set s.globals g word }
 effect_of (WriteLine e w) word s = record s { output = s.output ++ (integer_text word (width_of w) ++ 10 ∷ []) }
+effect_of Empty word s = s
 
 -- control goes on before a gate, or the program has ended
 abbrev pub arrived : Target → Activation → List Activation → State → State

@@ -1,4 +1,4 @@
-//! The own forms of the statements that are built.
+//! The statements that are built.
 
 /// An operand.
 #[derive(Clone, Copy, Debug, PartialEq, Eq)]
@@ -23,4 +23,14 @@ pub enum SimpleForm {
     Assign(u16, Sum),
     /// `writeln` of the value, in this width of 1 to 255 characters, or else in 8.
     WriteLine(Sum, Option<u8>),
+    /// The empty statement, which has no effect.
+    Empty,
+}
+
+/// A statement that has a block: its lasting name, by which replies tell it, and its form.
+#[derive(Clone, Copy, Debug, PartialEq, Eq)]
+pub struct Statement {
+    /// No other statement of the program has it, and 1 is the program's own.
+    pub name: u32,
+    pub form: SimpleForm,
 }

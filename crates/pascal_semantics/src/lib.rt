@@ -9,5 +9,5 @@ mod form;
 #[cfg(test)]
 mod tests;
 
-pub use charges::{PROGRAM_CHARGE, charge};
-pub use form::{Operand, SimpleForm, Sum};
+pub use charges::{PROGRAM_CHARGE, charge, code_words};
+pub use form::{Operand, SimpleForm, Statement, Sum};

@@ -36,9 +36,34 @@ fn charges_blocks(rt: HostRuntime) {
         (SimpleForm::WriteLine(mixed, None), 72),
         (SimpleForm::WriteLine(one_number, Some(1)), 48),
         (SimpleForm::WriteLine(two_globals, Some(255)), 84),
+        (SimpleForm::Empty, 8),
     ];
     for (form, words) in &cases {
         assert_eq!(rt; charge(form), *words, "{form:?}");
     }
     assert_eq!(rt; PROGRAM_CHARGE, 32);
+}
+
+#[test]
+fn counts_the_words_of_programs(rt: HostRuntime) {
+    let seven = Sum {
+        first: NUMBER,
+        second: None,
+    };
+    let statements = [
+        Statement {
+            name: 4,
+            form: SimpleForm::Assign(0, seven),
+        },
+        Statement {
+            name: 7,
+            form: SimpleForm::Empty,
+        },
+        Statement {
+            name: 5,
+            form: SimpleForm::WriteLine(seven, None),
+        },
+    ];
+    assert_eq!(rt; code_words(&[]), 32);
+    assert_eq!(rt; code_words(&statements), 120);
 }

@@ -13,6 +13,7 @@ mod double;
 mod extended;
 mod operands;
 mod outcome;
+mod reset;
 mod single;
 mod step;
 mod take_trap;

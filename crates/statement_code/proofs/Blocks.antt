@@ -14,23 +14,24 @@ use Rattle.console_service.proofs.Jumps.{trap_stops, trap_no_gate}
 use Rattle.code_image.specs.declared.block.BlockCode.{BlockCode}
 use Rattle.code_image.specs.Block.{First, Gate, Step, End, Leave, Block, laid, linked, set_at}
 use Rattle.code_image.specs.BlockOf.{block_of, link_of, first_of}
-use Rattle.code_image.specs.Semantics.{At, Back, Hanging}
+use Rattle.code_image.specs.Semantics.{At, Back, Out, Hanging}
 use Rattle.code_image.specs.Image.{AreLinks, NoLink, Gives as Exits, Implements, HasLink}
 use Rattle.pascal_semantics.specs.declared.form.Operand.{Operand}
 use Rattle.pascal_semantics.specs.declared.form.Operand.TheVariants.{Global, Number}
 use Rattle.pascal_semantics.specs.declared.form.Sum.{Sum}
 use Rattle.pascal_semantics.specs.declared.form.SimpleForm.{SimpleForm}
-use Rattle.pascal_semantics.specs.declared.form.SimpleForm.TheVariants.{Assign, WriteLine}
+use Rattle.pascal_semantics.specs.declared.form.SimpleForm.TheVariants.{Assign, WriteLine, Empty}
 use Rattle.pascal_semantics.specs.Charge.{charge_of, operand_charge, second_charge}
 use Rattle.pascal_semantics.specs.Step.{Result, Value, Error, operand_value}
-use Rattle.pascal_semantics.specs.Outcome.{sum_outcome, sum_in}
-use Rattle.statement_code.specs.Code.{operand_words, second_words, sum_words, effect_words, behind_gate, statement_words, statement_block, filler, link_offset, IsOperand, IsSecond, IsSum, IsForm}
+use Rattle.pascal_semantics.specs.Outcome.{sum_outcome}
+use Rattle.pascal_semantics.specs.Valid.{IsOperand, IsSecond, IsSum, IsForm}
+use Rattle.statement_code.specs.Code.{operand_words, second_words, sum_words, value_words, effect_words, behind_gate, statement_words, statement_block, filler, link_offset}
 use Rattle.statement_code.specs.Gives.{Gives, HasGlobals, Ready}
 use Rattle.statement_code.specs.Forms.{StatementBlock, NoCall, Store, stored, exit_by, outcome_of, FrameHolds, Holds, most, simple}
 use Rattle.statement_code.specs.Emitted.{IsMade, IsStatementCode, IsCodeOf}
 use Rattle.statement_code.proofs.Sums.{sum-is, is_lost}
 use Rattle.statement_code.proofs.Runs.{ready_front, ready_back, globals_still, operand_small, sum_does}
-use Rattle.statement_code.proofs.Effects.{effect_done}
+use Rattle.statement_code.proofs.Effects.{HasValue, effect_done, jump_end}
 
 -- ---- how long the words are
 
@@ -49,13 +50,14 @@ second_long (Some b) = omega (arith, length-append (operand_words b) (25998 ∷ 
 sum_long : (e : Sum) → length (sum_words e) ≤ operand_charge e.first + second_charge e.second
 sum_long e = omega (arith, length-append (operand_words e.first) (second_words e.second), operand_some e.first, second_long e.second)
 
-pub behind_long : (f : SimpleForm) (link : ℕ) → length (behind_gate f link) ≡ length (sum_words (sum_in f)) + length (effect_words f) + 2
-behind_long f link = omega (arith, length-append (sum_words (sum_in f)) (effect_words f ++ (95 ∷ (link ∷ []))), length-append (effect_words f) (95 ∷ (link ∷ [])))
+pub behind_long : (f : SimpleForm) (link : ℕ) → length (behind_gate f link) ≡ length (value_words f) + length (effect_words f) + 2
+behind_long f link = omega (arith, length-append (value_words f) (effect_words f ++ (95 ∷ (link ∷ []))), length-append (effect_words f) (95 ∷ (link ∷ [])))
 
 -- a block's words have room in its charge
-pub words_fit : (f : SimpleForm) → length (sum_words (sum_in f)) + length (effect_words f) + 3 ≤ charge_of f
+pub words_fit : (f : SimpleForm) → length (value_words f) + length (effect_words f) + 3 ≤ charge_of f
 words_fit (Assign g e) = omega (arith, sum_long e)
 words_fit (WriteLine e w) = omega (arith, sum_long e)
+words_fit Empty = omega arith
 
 pub block_long : (f : SimpleForm) → length (statement_block f) ≡ charge_of f
 block_long f = omega (arith, length-append (statement_words f 160 0) (filler (charge_of f) (statement_words f 160 0)), length-replicate {A = ℕ} (charge_of f - length (statement_words f 160 0)) 0, behind_long f 0, words_fit f)
@@ -64,13 +66,13 @@ block_long f = omega (arith, length-append (statement_words f 160 0) (filler (ch
 
 -- the words before the link word
 abbrev before_link : SimpleForm → ℕ → List ℕ
-before_link f g = (g ∷ sum_words (sum_in f)) ++ (effect_words f ++ (95 ∷ []))
+before_link f g = (g ∷ value_words f) ++ (effect_words f ++ (95 ∷ []))
 
 split_words : (f : SimpleForm) (g link : ℕ) (fill : List ℕ) → statement_words f g link ++ fill ≡ before_link f g ++ (link ∷ fill)
 split_words f g link fill = simp append_assoc
 
 before_link_long : (f : SimpleForm) (g : ℕ) → link_offset f ≡ length (before_link f g)
-before_link_long f g = omega (arith, length-append (g ∷ sum_words (sum_in f)) (effect_words f ++ (95 ∷ [])), length-append (effect_words f) (95 ∷ []))
+before_link_long f g = omega (arith, length-append (g ∷ value_words f) (effect_words f ++ (95 ∷ [])), length-append (effect_words f) (95 ∷ []))
 
 laid_words : (f : SimpleForm) (g link : ℕ) (fill : List ℕ) → slice_set (slice_set (statement_words f 160 0 ++ fill) 0 g) (link_offset f) link ≡ statement_words f g link ++ fill
 laid_words f g link fill =
@@ -114,32 +116,33 @@ frame_still false c e r s high h = s ∙ h
 stored_started : (f : SimpleForm) (v : ℕ) (d : Store) → (stored f v d).started ≡ d.started
 stored_started (Assign g e) v d = refl
 stored_started (WriteLine e w) v d = refl
+stored_started Empty v d = refl
 
 -- ---- the statement's block, from behind its gate
 
 abbrev pub IsLaid : SimpleForm → Block → Type 0
 IsLaid f b = (b.links ≡ record { at = link_offset f; to = Next } ∷ []) × (length b.words ≡ charge_of f)
 
-exits : (f : SimpleForm) (d : Store) (hs : List (Hanging NoCall)) (b : Block) (p : ℕ) (q : LinkTo → ℕ) (c : Cpu) (r : Result) → IsForm f → IsLaid f b → length d.output ≤ 32768 → IsPlain r → c.pc ≡ p + 1 → Ready (behind_gate f (2 * q Next)) d.globals 2 c → Holds d hs c → Gives (length (sum_words (sum_in f))) c r
+exits : (f : SimpleForm) (d : Store) (hs : List (Hanging NoCall)) (b : Block) (p : ℕ) (q : LinkTo → ℕ) (c : Cpu) (r : Result) → HasValue f → IsForm f → IsLaid f b → length d.output + 257 ≤ 65536 → IsPlain r → c.pc ≡ p + 1 → Ready (behind_gate f (2 * q Next)) d.globals 2 c → Holds d hs c → Gives (length (value_words f)) c r
     → Exits simple (most (StatementBlock f) (At Gate)) (StatementBlock f) b p q hs c (exit_by f d r)
-exits f d hs b p q c (Error number) is laid room plain at r holds (e, t) =
+exits f d hs b p q c (Error number) has is laid room plain at r holds (e, t) =
     let fits = words_fit f in
     let lens = behind_long f (2 * q Next) in
     let low : e.pc < 28672 = omega (arith, t.to, r.fits, lens) in (
       e,
-      record { comes = comes_within (length (sum_words (sum_in f))) (16384 * charge_of f) c e (omega arith) t.comes; kept = λ k lt. t.keeps.low k (omega arith); long = t.keeps.long },
+      record { comes = comes_within (length (value_words f)) (16384 * charge_of f) c e (omega arith) t.comes; kept = λ k lt. t.keeps.low k (omega arith); long = t.keeps.long },
       record { below = omega (arith, t.to, r.fits, lens); here = t.trap; stops = trap_stops e number low plain.0 plain.1 t.trap; no_gate = trap_no_gate e number low t.trap },
       (omega (arith, t.from, at), omega (arith, t.to, at, laid.1, fits)),
       record { globals_are = globals_still stack_begin c.sp d.globals c e (omega arith) t.keeps holds.globals_are; console = ap (λ k. k.output) t.console ∙ holds.console },
     )
-exits f d hs b p q c (Value v) is laid room plain at r holds (e, u) =
+exits f d hs b p q c (Value v) has is laid room plain at r holds (e, u) =
     let fits = words_fit f in
-    let code = sum_words (sum_in f) in
+    let code = value_words f in
     let tail = effect_words f ++ (95 ∷ ((2 * q Next) ∷ [])) in
     let lens = length-append code tail in
     let both = behind_long f (2 * q Next) in
     let r2 = ready_back code tail d.globals 0 2 v c e (omega arith) r u in
-    let t = effect_done f v (q Next) d e is plain room r2 (omega (arith, u.stack, r.within)) (ap (λ k. k.output) u.console ∙ holds.console) u.top in
+    let t = effect_done f v (q Next) d e has is plain room r2 (omega (arith, u.stack, r.within)) (ap (λ k. k.output) u.console ∙ holds.console) u.top in
     let up : t.0.sp ≡ c.sp = omega (arith, t.1.stack, u.stack) in (
       t.0,
       record { comes = comes_within (length code + length tail) (16384 * charge_of f) c t.0 (omega arith) (comes_on (length code) (length tail) c e t.0 u.comes t.1.comes); kept = λ k lt. t.1.keeps.low k lt ∙ u.keeps.low k (omega arith); long = t.1.keeps.long ∙ u.keeps.long },
@@ -152,26 +155,46 @@ exits f d hs b p q c (Value v) is laid room plain at r holds (e, u) =
       },
     )
 
-is_sum : (f : SimpleForm) → IsForm f → IsSum (sum_in f)
-is_sum (Assign g e) is = is.1
-is_sum (WriteLine e w) is = is.0
-
-behind_runs : (f : SimpleForm) (d : Store) (hs : List (Hanging NoCall)) (b : Block) (p g : ℕ) (q : LinkTo → ℕ) (c : Cpu) → IsForm f → IsLaid f b → length d.output ≤ 32768 → HasAt c.mem p (statement_words f g (2 * q Next)) → p + charge_of f ≤ globals_begin → length c.mem ≡ memory_end → Holds d hs c → c.pc ≡ p + 1
-    → Exits simple (most (StatementBlock f) (At Gate)) (StatementBlock f) b p q hs c (exit_by f d (outcome_of f d))
-behind_runs f d hs b p g q c is laid room here below long holds at =
-    let e = sum_in f in
-    let iss = is_sum f is in
+behind_ready : (f : SimpleForm) (d : Store) (hs : List (Hanging NoCall)) (p g : ℕ) (q : LinkTo → ℕ) (c : Cpu) → HasAt c.mem p (statement_words f g (2 * q Next)) → p + charge_of f ≤ globals_begin → length c.mem ≡ memory_end → Holds d hs c → c.pc ≡ p + 1 → Ready (behind_gate f (2 * q Next)) d.globals 2 c
+behind_ready f d hs p g q c here below long holds at =
     let stack = frame_stack d.started c holds.frame in
-    let r : Ready (behind_gate f (2 * q Next)) d.globals 2 c = record {
+    record {
       here = subst (λ k. HasAt c.mem k (behind_gate f (2 * q Next))) (sym at) here.1;
       fits = omega (arith, at, below, behind_long f (2 * q Next), words_fit f);
       room_left = omega (arith, stack.0);
       within = stack.1;
       long = long;
       globals_are = holds.globals_are;
-    } in
-    exits f d hs b p q c (outcome_of f d) is laid room (outcome_plain e.first e.second d.globals c iss.0 iss.1 holds.globals_are) at r holds
-    (sum_does e.first e.second d.globals c iss.0 iss.1 (ready_front (sum_words e) _ d.globals 2 2 c (omega arith) r))
+    }
+
+-- a statement that does nothing
+nothing_done : (d : Store) (hs : List (Hanging NoCall)) (b : Block) (p : ℕ) (q : LinkTo → ℕ) (c : Cpu) → IsLaid Empty b → Ready (behind_gate Empty (2 * q Next)) d.globals 2 c → Holds d hs c → Exits simple (most (StatementBlock Empty) (At Gate)) (StatementBlock Empty) b p q hs c (Out Next d)
+nothing_done d hs b p q c laid r holds =
+    let e : Cpu = record c { pc = q Next } in (
+      e,
+      record { comes = comes_within 1 (16384 * 8) c e (omega arith) (jump_end c (q Next) (omega (arith, r.fits)) r.here); kept = λ k lt. refl; long = refl },
+      subst (λ ls. HasLink ls Next) (sym laid.0) (inl refl),
+      refl,
+      record {
+        globals_are = record { count = holds.globals_are.count; small = holds.globals_are.small; each = holds.globals_are.each };
+        frame = frame_still d.started c e refl refl (λ k le. refl) holds.frame;
+        console = holds.console;
+      },
+    )
+
+behind_runs : (f : SimpleForm) (d : Store) (hs : List (Hanging NoCall)) (b : Block) (p g : ℕ) (q : LinkTo → ℕ) (c : Cpu) → IsForm f → IsLaid f b → length d.output + 257 ≤ 65536 → HasAt c.mem p (statement_words f g (2 * q Next)) → p + charge_of f ≤ globals_begin → length c.mem ≡ memory_end → Holds d hs c → c.pc ≡ p + 1
+    → Exits simple (most (StatementBlock f) (At Gate)) (StatementBlock f) b p q hs c (exit_by f d (outcome_of f d))
+behind_runs f d hs b p g q c is laid room here below long holds at = by f is laid (behind_ready f d hs p g q c here below long holds at)
+  where
+    with_sum : (f : SimpleForm) (e : Sum) → HasValue f → IsForm f → IsSum e → IsLaid f b → Ready (behind_gate f (2 * q Next)) d.globals 2 c → value_words f ≡ sum_words e → Exits simple (most (StatementBlock f) (At Gate)) (StatementBlock f) b p q hs c (exit_by f d (sum_outcome e.first e.second d.globals))
+    with_sum f e has is iss laid r same =
+        exits f d hs b p q c (sum_outcome e.first e.second d.globals) has is laid room (outcome_plain e.first e.second d.globals c iss.0 iss.1 holds.globals_are) at r holds
+        (subst (λ ws. Gives (length ws) c (sum_outcome e.first e.second d.globals)) (sym same) (sum_does e.first e.second d.globals c iss.0 iss.1 (subst (λ ws. Ready ws d.globals 2 c) same (ready_front (value_words f) _ d.globals 2 2 c (omega arith) r))))
+
+    by : (f : SimpleForm) → IsForm f → IsLaid f b → Ready (behind_gate f (2 * q Next)) d.globals 2 c → Exits simple (most (StatementBlock f) (At Gate)) (StatementBlock f) b p q hs c (exit_by f d (outcome_of f d))
+    by (Assign g e) is laid r = with_sum (Assign g e) e tt is is.1 laid r refl
+    by (WriteLine e w) is laid r = with_sum (WriteLine e w) e tt is is.0 laid r refl
+    by Empty is laid r = nothing_done d hs b p q c laid r holds
 
 -- ---- the block as it was made
 

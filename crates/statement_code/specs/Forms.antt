@@ -1,14 +1,15 @@
 -- What the blocks of simple programs do, and when a machine stands for their variables, their frame and their output.
-use Rattle.std.specs.Prelude.{◌≡◌, ℕ, ◌*◌, ◌<◌, ◌≤◌, Bool, true, false, List, [], ◌∷◌, ◌++◌, length, slice_index, slice_set}
+use Rattle.std.specs.Prelude.{◌≡◌, ℕ, ◌+◌, ◌*◌, ◌<◌, ◌≤◌, Bool, true, false, List, [], ◌∷◌, ◌++◌, length, slice_index, slice_set}
 use Rattle.dice_base.specs.declared.link.LinkTo.TheVariants.{Next, Child}
+use Rattle.console_service.specs.Console.{output_room}
 use Rattle.console_service.specs.Cpu.{Cpu, memory_end}
 use Rattle.code_image.specs.Block.{First}
 use Rattle.code_image.specs.Semantics.{Begin, At, Exit, Out, Over, Fails, Hanging, Semantics}
 use Rattle.pascal_semantics.specs.declared.form.SimpleForm.{SimpleForm}
-use Rattle.pascal_semantics.specs.declared.form.SimpleForm.TheVariants.{Assign, WriteLine}
+use Rattle.pascal_semantics.specs.declared.form.SimpleForm.TheVariants.{Assign, WriteLine, Empty}
 use Rattle.pascal_semantics.specs.Charge.{charge_of, program_charge}
 use Rattle.pascal_semantics.specs.Step.{Result, Value, Error, width_of, integer_text}
-use Rattle.pascal_semantics.specs.Outcome.{sum_outcome, sum_in}
+use Rattle.pascal_semantics.specs.Outcome.{form_outcome}
 use Rattle.statement_code.specs.Gives.{HasGlobals}
 
 -- the own forms of blocks: that of the program, and those of its statements
@@ -36,13 +37,14 @@ pub record Store : Type 0 where
 abbrev pub stored : SimpleForm → ℕ → Store → Store
 stored (Assign g e) v d = record d { globals = slice_set d.globals g v }
 stored (WriteLine e w) v d = record d { output = d.output ++ (integer_text v (width_of w) ++ 10 ∷ []) }
+stored Empty v d = d
 
 abbrev pub exit_by : SimpleForm → Store → Result → Exit NoCall Store
 exit_by f d (Value v) = Out Next (stored f v d)
 exit_by f d (Error number) = Fails number d
 
 abbrev pub outcome_of : SimpleForm → Store → Result
-outcome_of f d = sum_outcome (sum_in f).first (sum_in f).second d.globals
+outcome_of f d = form_outcome f d.globals
 
 -- a statement is carried out from its gate; the program's block makes the frame, and its end part ends the program
 abbrev pub does : BlockForm → Begin NoCall → Store → Exit NoCall Store
@@ -75,9 +77,13 @@ pub record Shows (d : Store) (c : Cpu) : Type 0 where
   pub globals_are : HasGlobals d.globals c
   pub console : c.console.output ≡ d.output
 
--- half of the output's room is free at a gate; the program's frame is made once
+-- the longest line that a statement writes
+abbrev pub line_room : ℕ
+line_room = 257
+
+-- at a gate the output has room for a line; the program's frame is made once
 abbrev pub IsGood : BlockForm → Begin NoCall → Store → Type 0
-IsGood (StatementBlock f) s d = length d.output ≤ 32768
+IsGood (StatementBlock f) s d = length d.output + line_room ≤ output_room
 IsGood ProgramBlock (At First) d = d.started ≡ false
 IsGood ProgramBlock other d = Unit {0}
 

@@ -1,0 +1,56 @@
+-- The programs that can be loaded: their parts are in range, their names differ, and their blocks fit the code area.
+use Rattle.std.specs.Prelude.{◌≢◌, ℕ, ◌+◌, ◌<◌, ◌≤◌, List, [], ◌∷◌, Option, Some, None}
+use Rattle.std.specs.List.{AllByRecursion}
+use Rattle.pascal_semantics.specs.declared.form.Operand.{Operand}
+use Rattle.pascal_semantics.specs.declared.form.Operand.TheVariants.{Global, Number}
+use Rattle.pascal_semantics.specs.declared.form.Sum.{Sum}
+use Rattle.pascal_semantics.specs.declared.form.SimpleForm.{SimpleForm}
+use Rattle.pascal_semantics.specs.declared.form.SimpleForm.TheVariants.{Assign, WriteLine, Empty}
+use Rattle.pascal_semantics.specs.declared.form.Statement.{Statement}
+use Rattle.pascal_semantics.specs.Charge.{program_charge, charges_of}
+
+-- variables are global words, numbers and widths are in range
+abbrev pub IsOperand : Operand → Type 0
+IsOperand (Global g) = g < 4096
+IsOperand (Number n) = n ≤ 32767
+
+abbrev pub IsSecond : Option Operand → Type 0
+IsSecond None = Unit {0}
+IsSecond (Some b) = IsOperand b
+
+abbrev pub IsSum : Sum → Type 0
+IsSum e = IsOperand e.first × IsSecond e.second
+
+abbrev pub IsWidth : Option ℕ → Type 0
+IsWidth None = Unit {0}
+IsWidth (Some w) = (1 ≤ w) × (w ≤ 255)
+
+abbrev pub IsForm : SimpleForm → Type 0
+IsForm (Assign g e) = (g < 4096) × IsSum e
+IsForm (WriteLine e w) = IsSum e × IsWidth w
+IsForm Empty = Unit {0}
+
+-- the name of the program itself
+abbrev pub program_name : ℕ
+program_name = 1
+
+-- none of the statements has this name
+abbrev pub IsFree : ℕ → List Statement → Type 0
+IsFree n [] = Unit {0}
+IsFree n (s ∷ ss) = (s.name ≢ n) × IsFree n ss
+
+-- no two have the same name
+abbrev pub AllDiffer : List Statement → Type 0
+AllDiffer [] = Unit {0}
+AllDiffer (s ∷ ss) = IsFree s.name ss × AllDiffer ss
+
+-- the words of the code area
+abbrev pub code_room : ℕ
+code_room = 10240
+
+-- a program that can be loaded, with any number of statements, also none
+pub record IsProgram (ss : List Statement) : Type 0 where
+  pub forms : AllByRecursion (λ s. IsForm s.form) ss
+  pub differ : AllDiffer ss
+  pub free : IsFree program_name ss
+  pub fits : program_charge + charges_of ss ≤ code_room
