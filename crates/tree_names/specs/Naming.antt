@@ -42,13 +42,13 @@ in_stmt x n = (roll-Stmt (record { name = record { 0 = n }; label = x.label; kin
 abbrev pub in_arm : Arm-F (Numbering StmtKind) (Numbering Arm) (Numbering Stmt) → Numbering Arm
 in_arm x n = (roll-Arm (record { constants = x.constants; body = (x.body n).0 }), (x.body n).1)
 
-abbrev pub stmt_numbered : Stmt → Numbering Stmt
+unfoldable pub stmt_numbered : Stmt → Numbering Stmt
 stmt_numbered = fold-Stmt (Numbering StmtKind) (Numbering Arm) (Numbering Stmt) in_kind in_arm in_stmt
 
-abbrev pub kind_numbered : StmtKind → Numbering StmtKind
+unfoldable pub kind_numbered : StmtKind → Numbering StmtKind
 kind_numbered = fold-StmtKind (Numbering StmtKind) (Numbering Arm) (Numbering Stmt) in_kind in_arm in_stmt
 
-abbrev pub arm_numbered : Arm → Numbering Arm
+unfoldable pub arm_numbered : Arm → Numbering Arm
 arm_numbered = fold-Arm (Numbering StmtKind) (Numbering Arm) (Numbering Stmt) in_kind in_arm in_stmt
 
 abbrev pub stmts_numbered : List Stmt → Numbering (List Stmt)
@@ -83,10 +83,10 @@ in_block b n =
 abbrev pub in_routine : Routine-F (Numbering Block) (Numbering Routine) → Numbering Routine
 in_routine r n = (roll-Routine (record { name = record { 0 = n }; heading = r.heading; block = (if_any r.block (n + 1)).0 }), (if_any r.block (n + 1)).1)
 
-abbrev pub block_numbered : Block → Numbering Block
+unfoldable pub block_numbered : Block → Numbering Block
 block_numbered = fold-Block (Numbering Block) (Numbering Routine) in_block in_routine
 
-abbrev pub routine_numbered : Routine → Numbering Routine
+unfoldable pub routine_numbered : Routine → Numbering Routine
 routine_numbered = fold-Routine (Numbering Block) (Numbering Routine) in_block in_routine
 
 abbrev pub routines_numbered : List Routine → Numbering (List Routine)

@@ -4,8 +4,8 @@ ghost use Rattle.tree_names.specs.Naming as spec;
 
 use crate::decl_copies::{copy_constants, copy_decl_kind, copy_heading, copy_texts};
 use crate::expr_copies::{copy_access, copy_accesses, copy_args, copy_expr};
-use dice_base::{Name, NoMemory};
-use program_tree::{Arm, Block, Decl, Expr, Program, Routine, Stmt, StmtKind};
+use dice_base::{Name, NoMemory, Text};
+use program_tree::{Access, Arg, Arm, Block, Decl, Expr, Program, Routine, Stmt, StmtKind};
 use sqlite_items::{Boxed, Items};
 use std::alloc::Global;
 
@@ -20,6 +20,7 @@ fn after(name: u32) -> Result<u32, NoMemory>
 }
 
 #[cycle(number_stmt)]
+#[tactic(auto, unfolding(crate::specs::Naming::stmt_numbered, crate::specs::Naming::kind_numbered, crate::specs::Naming::arm_numbered))]
 fn number_stmt(alloc: Global, stmt: &Stmt, next: u32) -> Result<(Stmt, u32), NoMemory>
     ensures { IfOk result (λ r. r ≡ spec.stmt_numbered stmt.now next) }
 {
@@ -35,37 +36,45 @@ fn number_stmt(alloc: Global, stmt: &Stmt, next: u32) -> Result<(Stmt, u32), NoM
 }
 
 #[cycle(number_stmt)]
+#[tactic(auto, unfolding(crate::specs::Naming::stmt_numbered, crate::specs::Naming::kind_numbered, crate::specs::Naming::arm_numbered))]
 fn number_kind(alloc: Global, kind: &StmtKind, next: u32) -> Result<(StmtKind, u32), NoMemory>
     ensures { IfOk result (λ r. r ≡ spec.kind_numbered kind.now next) }
 {
     match kind {
         StmtKind::Empty => Ok((StmtKind::Empty, next)),
         StmtKind::Assign(access, value) => {
-            let access = copy_access(alloc, access)?;
-            let value = copy_expr(alloc, value)?;
-            Ok((StmtKind::Assign(access, value), next))
+            let kind = copy_assign(alloc, access, value)?;
+            Ok((kind, next))
         }
         StmtKind::Call(ident, args) => {
-            let ident = ident.copy(alloc)?;
-            let args = copy_args(alloc, args.as_slice())?;
-            Ok((StmtKind::Call(ident, args), next))
+            let kind = copy_call(alloc, ident, args.as_slice())?;
+            Ok((kind, next))
         }
         StmtKind::Goto(label) => Ok((StmtKind::Goto(*label), next)),
         StmtKind::Compound(stmts) => {
             let (stmts, next) = number_stmts(alloc, stmts.as_slice(), next)?;
             Ok((StmtKind::Compound(stmts), next))
         }
-        StmtKind::If(test, yes, no) => number_if(alloc, test, yes.get(), no, next),
+        StmtKind::If(test, yes, None) => {
+            let (yes, next) = number_stmt(alloc, yes.get(), next)?;
+            let kind = make_if(alloc, test, yes, None)?;
+            Ok((kind, next))
+        }
+        StmtKind::If(test, yes, Some(no)) => {
+            let (yes, next) = number_stmt(alloc, yes.get(), next)?;
+            let (no, next) = number_stmt(alloc, no.get(), next)?;
+            let kind = make_if(alloc, test, yes, Some(no))?;
+            Ok((kind, next))
+        }
         StmtKind::Case(selector, arms) => {
-            let selector = copy_expr(alloc, selector)?;
             let (arms, next) = number_arms(alloc, arms.as_slice(), next)?;
+            let selector = copy_expr(alloc, selector)?;
             Ok((StmtKind::Case(selector, arms), next))
         }
         StmtKind::While(test, body) => {
-            let test = copy_expr(alloc, test)?;
             let (body, next) = number_stmt(alloc, body.get(), next)?;
-            let body = Boxed::new(alloc, body)?;
-            Ok((StmtKind::While(test, body), next))
+            let kind = make_while(alloc, test, body)?;
+            Ok((kind, next))
         }
         StmtKind::Repeat(stmts, test) => {
             let (stmts, next) = number_stmts(alloc, stmts.as_slice(), next)?;
@@ -73,43 +82,79 @@ fn number_kind(alloc: Global, kind: &StmtKind, next: u32) -> Result<(StmtKind, u
             Ok((StmtKind::Repeat(stmts, test), next))
         }
         StmtKind::For(ident, first, down, last, body) => {
-            let ident = ident.copy(alloc)?;
-            let first = copy_expr(alloc, first)?;
-            let last = copy_expr(alloc, last)?;
             let (body, next) = number_stmt(alloc, body.get(), next)?;
-            let body = Boxed::new(alloc, body)?;
-            Ok((StmtKind::For(ident, first, *down, last, body), next))
+            let kind = make_for(alloc, ident, first, *down, last, body)?;
+            Ok((kind, next))
         }
         StmtKind::With(records, body) => {
-            let records = copy_accesses(alloc, records.as_slice())?;
             let (body, next) = number_stmt(alloc, body.get(), next)?;
-            let body = Boxed::new(alloc, body)?;
-            Ok((StmtKind::With(records, body), next))
+            let kind = make_with(alloc, records.as_slice(), body)?;
+            Ok((kind, next))
         }
     }
 }
 
-#[cycle(number_stmt)]
-fn number_if(
-    alloc: Global,
-    test: &Expr,
-    yes: &Stmt,
-    no: &Option<Boxed<Stmt>>,
-    next: u32,
-) -> Result<(StmtKind, u32), NoMemory>
-    ensures { IfOk result (λ r. r ≡ spec.kind_numbered (StmtKind.If test.now yes.now no.now) next) }
+fn copy_assign(alloc: Global, access: &Access, value: &Expr) -> Result<StmtKind, NoMemory>
+    ensures { IfOk result (λ r. r ≡ StmtKind.Assign access.now value.now) }
+{
+    let access = copy_access(alloc, access)?;
+    let value = copy_expr(alloc, value)?;
+    Ok(StmtKind::Assign(access, value))
+}
+
+fn copy_call(alloc: Global, ident: &Text, args: &[Arg]) -> Result<StmtKind, NoMemory>
+    ensures { IfOk result (λ r. r ≡ StmtKind.Call ident.now args.now) }
+{
+    let ident = ident.copy(alloc)?;
+    let args = copy_args(alloc, args)?;
+    Ok(StmtKind::Call(ident, args))
+}
+
+fn make_if(alloc: Global, test: &Expr, yes: Stmt, no: Option<Stmt>) -> Result<StmtKind, NoMemory>
+    ensures { IfOk result (λ r. r ≡ StmtKind.If test.now yes no) }
 {
     let test = copy_expr(alloc, test)?;
-    let (yes, next) = number_stmt(alloc, yes, next)?;
     let yes = Boxed::new(alloc, yes)?;
     match no {
-        None => Ok((StmtKind::If(test, yes, None), next)),
+        None => Ok(StmtKind::If(test, yes, None)),
         Some(no) => {
-            let (no, next) = number_stmt(alloc, no.get(), next)?;
             let no = Boxed::new(alloc, no)?;
-            Ok((StmtKind::If(test, yes, Some(no)), next))
+            Ok(StmtKind::If(test, yes, Some(no)))
         }
     }
+}
+
+fn make_while(alloc: Global, test: &Expr, body: Stmt) -> Result<StmtKind, NoMemory>
+    ensures { IfOk result (λ r. r ≡ StmtKind.While test.now body) }
+{
+    let test = copy_expr(alloc, test)?;
+    let body = Boxed::new(alloc, body)?;
+    Ok(StmtKind::While(test, body))
+}
+
+fn make_for(
+    alloc: Global,
+    ident: &Text,
+    first: &Expr,
+    down: bool,
+    last: &Expr,
+    body: Stmt,
+) -> Result<StmtKind, NoMemory>
+    ensures { IfOk result (λ r. r ≡ StmtKind.For ident.now first.now down last.now body) }
+{
+    let ident = ident.copy(alloc)?;
+    let first = copy_expr(alloc, first)?;
+    let last = copy_expr(alloc, last)?;
+    let body = Boxed::new(alloc, body)?;
+    Ok(StmtKind::For(ident, first, down, last, body))
+}
+
+fn make_with(alloc: Global, records: &[Access], body: Stmt) -> Result<StmtKind, NoMemory>
+    ensures { IfOk result (λ r. r ≡ StmtKind.With records.now body) }
+{
+    let records = copy_accesses(alloc, records)?;
+    let body = Boxed::new(alloc, body)?;
+    Ok(StmtKind::With(records, body))
 }
 
 #[cycle(number_stmt)]
@@ -127,6 +172,7 @@ fn number_stmts(alloc: Global, stmts: &[Stmt], next: u32) -> Result<(Items<Stmt>
 }
 
 #[cycle(number_stmt)]
+#[tactic(auto, unfolding(crate::specs::Naming::stmt_numbered, crate::specs::Naming::kind_numbered, crate::specs::Naming::arm_numbered))]
 fn number_arm(alloc: Global, arm: &Arm, next: u32) -> Result<(Arm, u32), NoMemory>
     ensures { IfOk result (λ r. r ≡ spec.arm_numbered arm.now next) }
 {
@@ -191,6 +237,7 @@ fn number_labels(
 }
 
 #[cycle(number_block)]
+#[tactic(auto, unfolding(crate::specs::Naming::block_numbered, crate::specs::Naming::routine_numbered))]
 fn number_block(alloc: Global, block: &Block, next: u32) -> Result<(Block, u32), NoMemory>
     ensures { IfOk result (λ r. r ≡ spec.block_numbered block.now next) }
 {
@@ -212,6 +259,7 @@ fn number_block(alloc: Global, block: &Block, next: u32) -> Result<(Block, u32),
 }
 
 #[cycle(number_block)]
+#[tactic(auto, unfolding(crate::specs::Naming::block_numbered, crate::specs::Naming::routine_numbered))]
 fn number_routine(alloc: Global, routine: &Routine, next: u32) -> Result<(Routine, u32), NoMemory>
     ensures { IfOk result (λ r. r ≡ spec.routine_numbered routine.now next) }
 {
