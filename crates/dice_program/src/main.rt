@@ -3,6 +3,8 @@
 
 mod serve;
 mod status;
+#[cfg(test)]
+mod tests;
 mod top;
 
 use dice_base::{NoMemory, StdSink, StdSource};

@@ -4,4 +4,5 @@ pub mod Go
 pub mod After
 pub mod Loaded
 pub mod Texts
+pub mod Readings
 pub mod Sessions

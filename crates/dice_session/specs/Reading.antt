@@ -1,12 +1,25 @@
 -- What a text that is to be loaded turns out to be.
-use Rattle.std.specs.Prelude.{◌≡◌, ℕ, ◌<◌, ◌≤◌, List, length}
+use Rattle.std.specs.Prelude.{◌≡◌, ℕ, ◌<◌, ◌≤◌, List, length, Some}
+use Rattle.dice_base.specs.declared.token.TokenKind.{TokenKind}
+use Rattle.dice_base.specs.Lexemes.{Lexes}
 use Rattle.script_lines.specs.Front.{longest_text}
+use Rattle.program_tree.specs.declared.program.Program.{Program as Tree}
+use Rattle.program_tree.specs.Programs.{Derives}
+use Rattle.tree_names.specs.Naming.{numbered}
+use Rattle.simple_form.specs.Simple.{resolved}
 use Rattle.pascal_semantics.specs.declared.form.Statement.{Statement}
-use Rattle.pascal_semantics.specs.Valid.{IsForm, AllDiffer, IsFree, program_name}
+
+-- the tokens are a program of the grammar that, its items named in the order of the text, resolves to these statements
+pub record AreProgram (tokens : List TokenKind) (ss : List Statement) : Type 0 where
+  pub tree : Tree
+  pub derives : Derives tree tokens
+  pub resolves : resolved (numbered tree) ≡ Some ss
 
 -- the text is a program of these statements
-abbrev pub IsTextOf : List ℕ → List Statement → Type 0
-IsTextOf text ss = Unit {0}
+pub record IsTextOf (text : List ℕ) (ss : List Statement) : Type 0 where
+  pub tokens : List TokenKind
+  pub lexes : Lexes text tokens
+  pub program : AreProgram tokens ss
 
 -- a text that is too long, one of a form that is not built, or a program
 pub data Reading : Type 0 where

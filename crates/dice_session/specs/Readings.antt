@@ -3,7 +3,8 @@ use Rattle.std.specs.Prelude.{ℕ, ◌≤◌, List, length}
 use Rattle.std.specs.List.{AllByRecursion}
 use Rattle.pascal_semantics.specs.declared.form.Statement.{Statement}
 use Rattle.pascal_semantics.specs.Valid.{IsForm, AllDiffer, IsFree, program_name}
-use Rattle.dice_session.specs.Reading.{Reading, TooLong, NotBuilt, Program}
+use Rattle.program_tree.specs.Tokens.{Toks}
+use Rattle.dice_session.specs.Reading.{Reading, TooLong, NotBuilt, Program, AreProgram}
 use Rattle.dice_session.specs.declared.reading.Found.{Found}
 use Rattle.dice_session.specs.declared.reading.Found.TheVariants as found
 
@@ -17,9 +18,15 @@ pub record AreNamed (ss : List Statement) : Type 0 where
   pub forms : AllByRecursion (λ s. IsForm s.form) ss
   pub differ : AllDiffer ss
   pub free : IsFree program_name ss
-  pub few : length ss ≤ 1000000
+  pub few : length ss ≤ 4294967296
 
 abbrev pub IsNamed : Reading → Type 0
 IsNamed TooLong = Unit {0}
 IsNamed NotBuilt = Unit {0}
 IsNamed (Program ss) = AreNamed ss
+
+-- what tokens are
+abbrev pub IsReadingOf : Toks → Reading → Type 0
+IsReadingOf tokens TooLong = ⊥
+IsReadingOf tokens NotBuilt = (ss : List Statement) → AreProgram tokens ss → ⊥
+IsReadingOf tokens (Program ss) = AreProgram tokens ss

@@ -24,7 +24,7 @@ use pdp11_machine::Machine;
 use std::alloc::Global;
 
 /// The words of the code area.
-const CODE_ROOM: u32 = 10_240;
+const CODE_ROOM: u64 = 10_240;
 
 /// A session: the present program and what the next line of the script is. The program's state is that of the machine
 /// and the console.
@@ -190,7 +190,7 @@ impl Session {
         let words = code_words(&statements);
         if words > CODE_ROOM {
             out.append(alloc, b"code full: ")?;
-            push_decimal(alloc, out, words as u64)?;
+            push_decimal(alloc, out, words)?;
             return out.append(alloc, b" words\n");
         }
         load(alloc, &statements, machine, &mut self.console, out)?;

@@ -21,13 +21,13 @@ pub fn charge(form: &SimpleForm) -> u32
 }
 
 /// The words that the blocks of a whole program take, its own and those of its statements.
-pub fn code_words(statements: &[Statement]) -> u32
-    requires few { length statements.now ≤ 1000000 }
+pub fn code_words(statements: &[Statement]) -> u64
+    requires few { length statements.now ≤ 4294967296 }
     ensures words { result ≡ program_charge + charges_of statements.now }
 {
-    let mut words = PROGRAM_CHARGE;
+    let mut words = u64::from(PROGRAM_CHARGE);
     for statement in statements {
-        words += charge(&statement.form);
+        words += u64::from(charge(&statement.form));
     }
     words
 }

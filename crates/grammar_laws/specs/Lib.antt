@@ -1,0 +1,4 @@
+pub mod Parsers
+pub mod ProgramReading
+pub mod Reading
+pub mod StmtReading

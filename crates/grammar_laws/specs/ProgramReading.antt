@@ -1,0 +1,52 @@
+-- Programs, read from left to right.
+use Rattle.std.specs.Prelude.{ℕ, if◌then◌else◌, ◌==◌, List, [], ◌∷◌, Option, Some, None, Ok, Err}
+use Rattle.program_tree.specs.declared.decl.Decl.{Decl}
+use Rattle.program_tree.specs.declared.decl.Block.{Block}
+use Rattle.program_tree.specs.declared.program.Program.{Program}
+use Rattle.program_tree.specs.declared.stmt.Stmt.{Stmt}
+use Rattle.program_tree.specs.declared.stmt.StmtKind.{StmtKind}
+use Rattle.program_tree.specs.Symbols.{begin_word, program_word, var_word, ident_class, period_sign, comma_sign, semicolon_sign, colon_sign}
+use Rattle.program_tree.specs.Programs.{make_var, make_block, make_program}
+use Rattle.grammar_laws.specs.Parsers.{Parser, ◌>>=◌, ◌>>◌, pure, on, from, expect, ident, separated, many}
+use Rattle.grammar_laws.specs.StmtReading.{compound}
+
+unfoldable pub var_decl : Parser Decl
+var_decl = do
+  xs ← separated comma_sign ident
+  expect colon_sign
+  x ← ident
+  expect semicolon_sign
+  pure (make_var xs x)
+
+unfoldable pub more_vars : Parser (Option Decl)
+more_vars = from ident_class (var_decl >>= (λ d. pure (Some d))) (pure None)
+
+unfoldable pub vars_in : Parser (List Decl)
+vars_in = do
+  d ← var_decl
+  ds ← many more_vars
+  pure (d ∷ ds)
+
+unfoldable pub vars : Parser (List Decl)
+vars = on var_word vars_in (pure [])
+
+module _ (stmt : Parser Stmt) where
+  unfoldable pub body : Parser StmtKind
+  body = do
+    expect begin_word
+    compound stmt
+
+  unfoldable pub block : Parser Block
+  block = do
+    ds ← vars
+    b ← body
+    pure (make_block ds b)
+
+  unfoldable pub program : Parser Program
+  program = do
+    expect program_word
+    x ← ident
+    expect semicolon_sign
+    b ← block
+    expect period_sign
+    pure (make_program x b)

@@ -1,0 +1,67 @@
+-- Statements, read from left to right.
+use Rattle.std.specs.Prelude.{ℕ, zero, suc, if◌then◌else◌, ◌==◌, List, [], ◌∷◌, Option, Some, None, Ok, Err}
+use Rattle.program_tree.specs.declared.expr.Expr.{Expr}
+use Rattle.program_tree.specs.declared.expr.Arg.{Arg}
+use Rattle.program_tree.specs.declared.expr.AccessPart.{AccessPart}
+use Rattle.program_tree.specs.declared.stmt.Stmt.{Stmt}
+use Rattle.program_tree.specs.declared.stmt.StmtKind.{StmtKind}
+use Rattle.program_tree.specs.declared.stmt.StmtKind.TheVariants as s
+use Rattle.program_tree.specs.Symbols.{begin_word, end_word, ident_class, open_sign, close_sign, becomes_sign, comma_sign, semicolon_sign, colon_sign}
+use Rattle.program_tree.specs.Expressions.{make_access}
+use Rattle.program_tree.specs.Statements.{make_arg, make_stmt}
+use Rattle.grammar_laws.specs.Parsers.{Parser, ◌>>=◌, ◌>>◌, pure, refuse, on, from, expect, ident, separated, many, deep}
+use Rattle.grammar_laws.specs.Reading.{Inner, inside, expr, access_part}
+
+module _ (inner : Inner) where
+  unfoldable pub width : Parser (Option Expr)
+  width = on colon_sign (inner.expr >>= (λ e. pure (Some e))) (pure None)
+
+  unfoldable pub arg : Parser Arg
+  arg = do
+    e ← inner.expr
+    w ← width
+    pure (make_arg e w)
+
+  unfoldable pub args_in : Parser (List Arg)
+  args_in = do
+    args ← separated comma_sign arg
+    expect close_sign
+    pure args
+
+  unfoldable pub args : Parser (List Arg)
+  args = on open_sign args_in (pure [])
+
+  unfoldable pub call : List ℕ → List AccessPart → Parser StmtKind
+  call x [] = args >>= (λ args. pure (s.Call x args))
+  call x (p ∷ parts) = refuse
+
+  unfoldable pub assign : List ℕ → List AccessPart → Parser StmtKind
+  assign x parts = expr inner >>= (λ e. pure (s.Assign (make_access x parts) e))
+
+  -- behind an access comes `:=`, or the access is a procedure's identifier
+  unfoldable pub named : Parser StmtKind
+  named = do
+    x ← ident
+    parts ← many (access_part inner)
+    on becomes_sign (assign x parts) (call x parts)
+
+module _ (stmt : Parser Stmt) where
+  unfoldable pub compound : Parser StmtKind
+  compound = do
+    found ← separated semicolon_sign stmt
+    expect end_word
+    pure (s.Compound found)
+
+module _ (inner : Inner) (stmt : Parser Stmt) where
+  unfoldable pub kind : Parser StmtKind
+  kind = on begin_word (compound stmt) (from ident_class (named inner) (pure s.Empty))
+
+  unfoldable pub statement : Parser Stmt
+  statement = do
+    k ← kind
+    pure (make_stmt k)
+
+-- with this many levels that may nest
+unfoldable pub stmt_in : ℕ → Parser Stmt
+stmt_in zero = deep
+stmt_in (suc d) = statement (inside d) (stmt_in d)

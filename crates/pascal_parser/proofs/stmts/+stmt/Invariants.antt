@@ -1,0 +1,4 @@
+use Rattle.pascal_parser.proofs.stmts.+stmt.Given as goal
+
+abbrev pub decreases-stmt : goal.decreases-stmt
+decreases-stmt l = l.depth

@@ -1,0 +1,154 @@
+//! Declarations, blocks and programs.
+ghost use Rattle.std.specs.Prelude.{◌≡◌};
+ghost use Rattle.grammar_laws.specs.Parsers as parsers;
+ghost use Rattle.grammar_laws.specs.Parsers.{Reads, separated, behind};
+ghost use Rattle.grammar_laws.specs.ProgramReading as spec;
+ghost use Rattle.grammar_laws.specs.StmtReading.{stmt_in};
+
+use crate::classes::{BEGIN, COLON, COMMA, IDENT, PERIOD, PROGRAM, SEMICOLON, VAR};
+use crate::cursor::Cursor;
+use crate::stmts::compound;
+use dice_base::{Name, Text};
+use grammar_laws::Stop;
+use program_tree::{Block, Decl, DeclKind, Program, Stmt, StmtKind, TypeText};
+use sqlite_items::Items;
+use std::alloc::Global;
+
+// The identifier behind a comma, if one comes next.
+#[tactic(auto, unfolding(grammar_laws::specs::Parsers::behind))]
+fn next_ident(alloc: Global, tokens: &mut Cursor<'_>) -> Result<Option<Text>, Stop>
+    ensures { Reads (behind 94 parsers.ident tokens.old) result tokens.new }
+{
+    match tokens.class() {
+        COMMA => {
+            tokens.skip();
+            Ok(Some(tokens.ident(alloc)?))
+        }
+        _ => Ok(None),
+    }
+}
+
+#[tactic(auto, using(crate::proofs::Turns::many_step, crate::proofs::Turns::many_stop), unfolding(grammar_laws::specs::Parsers::separated))]
+fn idents(alloc: Global, tokens: &mut Cursor<'_>) -> Result<Items<Text>, Stop>
+    ensures { Reads (separated 94 parsers.ident tokens.old) result tokens.new }
+{
+    let mut found = Items::new(alloc);
+    found.push(tokens.ident(alloc)?)?;
+    for _turn in 0..tokens.len() {
+        match next_ident(alloc, tokens)? {
+            Some(x) => found.push(x)?,
+            None => return Ok(found),
+        }
+    }
+    Ok(found)
+}
+
+#[tactic(auto, unfolding(grammar_laws::specs::ProgramReading::var_decl))]
+fn var_decl(alloc: Global, tokens: &mut Cursor<'_>) -> Result<Decl, Stop>
+    ensures { Reads (spec.var_decl tokens.old) result tokens.new }
+{
+    let idents = idents(alloc, tokens)?;
+    tokens.expect(COLON)?;
+    let shape = tokens.ident(alloc)?;
+    tokens.expect(SEMICOLON)?;
+    Ok(Decl {
+        name: Name(0),
+        kind: DeclKind::VarDecl(idents, TypeText::Named(shape)),
+    })
+}
+
+#[tactic(auto, unfolding(grammar_laws::specs::ProgramReading::more_vars))]
+fn more_vars(alloc: Global, tokens: &mut Cursor<'_>) -> Result<Option<Decl>, Stop>
+    ensures { Reads (spec.more_vars tokens.old) result tokens.new }
+{
+    match tokens.class() {
+        IDENT => Ok(Some(var_decl(alloc, tokens)?)),
+        _ => Ok(None),
+    }
+}
+
+// Further declarations, behind the first.
+#[tactic(auto, using(crate::proofs::Turns::many_step, crate::proofs::Turns::many_stop))]
+fn var_decls(alloc: Global, tokens: &mut Cursor<'_>) -> Result<Items<Decl>, Stop>
+    ensures { Reads (parsers.many spec.more_vars tokens.old) result tokens.new }
+{
+    let mut found = Items::new(alloc);
+    for _turn in 0..tokens.len() {
+        match more_vars(alloc, tokens)? {
+            Some(x) => found.push(x)?,
+            None => return Ok(found),
+        }
+    }
+    Ok(found)
+}
+
+#[tactic(auto, unfolding(grammar_laws::specs::ProgramReading::vars_in))]
+fn vars_in(alloc: Global, tokens: &mut Cursor<'_>) -> Result<Items<Decl>, Stop>
+    ensures { Reads (spec.vars_in tokens.old) result tokens.new }
+{
+    let first = var_decl(alloc, tokens)?;
+    let more = var_decls(alloc, tokens)?;
+    let mut all = Items::new(alloc);
+    all.push(first)?;
+    all.append(more)?;
+    Ok(all)
+}
+
+#[tactic(auto, unfolding(grammar_laws::specs::ProgramReading::vars))]
+fn vars(alloc: Global, tokens: &mut Cursor<'_>) -> Result<Items<Decl>, Stop>
+    ensures { Reads (spec.vars tokens.old) result tokens.new }
+{
+    match tokens.class() {
+        VAR => {
+            tokens.skip();
+            vars_in(alloc, tokens)
+        }
+        _ => Ok(Items::new(alloc)),
+    }
+}
+
+#[tactic(auto, unfolding(grammar_laws::specs::ProgramReading::body))]
+fn body(alloc: Global, tokens: &mut Cursor<'_>, depth: usize) -> Result<StmtKind, Stop>
+    ensures { Reads (spec.body (stmt_in depth) tokens.old) result tokens.new }
+{
+    tokens.expect(BEGIN)?;
+    compound(alloc, tokens, depth)
+}
+
+#[tactic(auto, unfolding(grammar_laws::specs::ProgramReading::block))]
+fn block(alloc: Global, tokens: &mut Cursor<'_>, depth: usize) -> Result<Block, Stop>
+    ensures { Reads (spec.block (stmt_in depth) tokens.old) result tokens.new }
+{
+    let vars = vars(alloc, tokens)?;
+    let kind = body(alloc, tokens, depth)?;
+    Ok(Block {
+        labels: None,
+        consts: Items::new(alloc),
+        types: Items::new(alloc),
+        vars,
+        routines: Items::new(alloc),
+        body: Stmt {
+            name: Name(0),
+            label: None,
+            kind,
+        },
+    })
+}
+
+/// A program in whose body's statements this many levels may nest.
+#[tactic(auto, unfolding(grammar_laws::specs::ProgramReading::program))]
+pub fn program(alloc: Global, tokens: &mut Cursor<'_>, depth: usize) -> Result<Program, Stop>
+    ensures { Reads (spec.program (stmt_in depth) tokens.old) result tokens.new }
+{
+    tokens.expect(PROGRAM)?;
+    let ident = tokens.ident(alloc)?;
+    tokens.expect(SEMICOLON)?;
+    let block = block(alloc, tokens, depth)?;
+    tokens.expect(PERIOD)?;
+    Ok(Program {
+        ident,
+        files: Items::new(alloc),
+        block,
+        next: 0,
+    })
+}

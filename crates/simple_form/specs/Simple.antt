@@ -1,0 +1,251 @@
+-- Simple programs, and what their identifiers stand for (ISO 7185:1990, 6.2.2 scopes, 6.5.1 variables, 6.8.2.2
+-- assignment, 6.9.4 writeln). What is not simple has no answer.
+use Rattle.std.specs.Prelude.{ℕ, Bool, true, false, ◌&&◌, not, nat_le, nat_lt, if◌then◌else◌, List, [], ◌∷◌, ◌++◌, length, Option, Some, None, is_some, codes, bytes_eq, map}
+use Rattle.dice_base.specs.Lexemes.{place_of}
+use Rattle.program_tree.specs.declared.expr.Prefix.{Prefix}
+use Rattle.program_tree.specs.declared.expr.Prefix.TheVariants.{Without}
+use Rattle.program_tree.specs.declared.expr.AddOp.{AddOp}
+use Rattle.program_tree.specs.declared.expr.AddOp.TheVariants as add
+use Rattle.program_tree.specs.declared.expr.Expr.{Expr, out-Expr}
+use Rattle.program_tree.specs.declared.expr.RelPart.{RelPart}
+use Rattle.program_tree.specs.declared.expr.SetMember.{SetMember}
+use Rattle.program_tree.specs.declared.expr.SumExpr.{SumExpr, out-SumExpr}
+use Rattle.program_tree.specs.declared.expr.AddPart.{AddPart, out-AddPart}
+use Rattle.program_tree.specs.declared.expr.Term.{Term, out-Term}
+use Rattle.program_tree.specs.declared.expr.MulPart.{MulPart}
+use Rattle.program_tree.specs.declared.expr.Factor.{Factor, Factor-F, out-Factor}
+use Rattle.program_tree.specs.declared.expr.Access.{Access, out-Access}
+use Rattle.program_tree.specs.declared.expr.AccessPart.{AccessPart}
+use Rattle.program_tree.specs.declared.expr.Arg.{Arg, out-Arg}
+use Rattle.program_tree.specs.declared.stmt.Stmt.{Stmt, Stmt-F, fold-Stmt}
+use Rattle.program_tree.specs.declared.stmt.StmtKind.{StmtKind, StmtKind-F, fold-StmtKind}
+use Rattle.program_tree.specs.declared.stmt.Arm.{Arm-F}
+use Rattle.program_tree.specs.declared.typing.TypeText.{TypeText, TypeText-F, out-TypeText}
+use Rattle.program_tree.specs.declared.typing.FieldText.{FieldText}
+use Rattle.program_tree.specs.declared.decl.Decl.{Decl}
+use Rattle.program_tree.specs.declared.decl.DeclKind.{DeclKind}
+use Rattle.program_tree.specs.declared.decl.DeclKind.TheVariants.{VarDecl}
+use Rattle.program_tree.specs.declared.decl.Block.{Block, out-Block}
+use Rattle.program_tree.specs.declared.program.Program.{Program}
+use Rattle.pascal_semantics.specs.declared.form.Operand.{Operand}
+use Rattle.pascal_semantics.specs.declared.form.Operand.TheVariants.{Global, Number}
+use Rattle.pascal_semantics.specs.declared.form.Sum.{Sum}
+use Rattle.pascal_semantics.specs.declared.form.SimpleForm.{SimpleForm}
+use Rattle.pascal_semantics.specs.declared.form.SimpleForm.TheVariants as form
+use Rattle.pascal_semantics.specs.declared.form.Statement.{Statement}
+use Rattle.simple_form.specs.declared.program.SimpleProgram.{SimpleProgram}
+
+abbrev pub Texts : Type 0
+Texts = List (List ℕ)
+
+-- ---- operands and sums
+
+-- a variable is known by its place among the variables
+abbrev pub whole_variable : Texts → List ℕ → List AccessPart → Option ℕ
+whole_variable vars x [] = place_of vars x
+whole_variable vars x (p ∷ parts) = None
+
+abbrev pub variable_of : Texts → Access → Option ℕ
+variable_of vars a = whole_variable vars (out-Access a).ident (out-Access a).parts
+
+abbrev pub global : Option ℕ → Option Operand
+global None = None
+global (Some n) = Some (Global n)
+
+abbrev pub opened_factor : Texts → Factor-F AccessPart Factor Access AddPart Arg Expr MulPart RelPart SetMember SumExpr Term → Option Operand
+opened_factor vars (Factor-F.Number n) = if nat_le n 32767 then Some (Number n) else None
+opened_factor vars (Factor-F.Access a) = global (variable_of vars a)
+opened_factor vars _ = None
+
+abbrev pub operand_of : Texts → Factor → Option Operand
+operand_of vars x = opened_factor vars (out-Factor x)
+
+abbrev pub alone : List MulPart → Option Operand → Option Operand
+alone [] x = x
+alone (p ∷ parts) x = None
+
+abbrev pub term_of : Texts → Term → Option Operand
+term_of vars t = alone (out-Term t).rest (operand_of vars (out-Term t).first)
+
+abbrev pub second_of : AddOp → Option Operand → Option Operand
+second_of add.Plus x = x
+second_of _ x = None
+
+abbrev pub one_operand : Option Operand → Option Sum
+one_operand None = None
+one_operand (Some a) = Some (record { first = a; second = None })
+
+abbrev pub two_operands : Option Operand → Option Operand → Option Sum
+two_operands None b = None
+two_operands (Some a) None = None
+two_operands (Some a) (Some b) = Some (record { first = a; second = Some b })
+
+abbrev pub added : Texts → Option Operand → List AddPart → Option Sum
+added vars a [] = one_operand a
+added vars a (p ∷ []) = two_operands a (second_of (out-AddPart p).op (term_of vars (out-AddPart p).right))
+added vars a (p ∷ q ∷ parts) = None
+
+abbrev pub signless_of : Texts → SumExpr → Option Sum
+signless_of vars s = added vars (term_of vars (out-SumExpr s).first) (out-SumExpr s).rest
+
+abbrev pub unsigned : Prefix → Option Sum → Option Sum
+unsigned Without s = s
+unsigned _ s = None
+
+abbrev pub unrelated : Option RelPart → Option Sum → Option Sum
+unrelated None s = s
+unrelated (Some r) s = None
+
+-- one operand, or two with `+` between
+abbrev pub sum_of : Texts → Expr → Option Sum
+sum_of vars e = unrelated (out-Expr e).rest (unsigned (out-SumExpr (out-Expr e).first).prefix (signless_of vars (out-Expr e).first))
+
+-- ---- statements
+
+abbrev pub assign_to : Option ℕ → Option Sum → Option SimpleForm
+assign_to None e = None
+assign_to (Some n) None = None
+assign_to (Some n) (Some e) = Some (form.Assign n e)
+
+abbrev pub assignment_of : Texts → Access → Expr → Option SimpleForm
+assignment_of vars a e = assign_to (variable_of vars a) (sum_of vars e)
+
+-- a width is a number from 1 to 255
+abbrev pub width_in : Operand → Option Operand → Option ℕ
+width_in (Number n) None = if nat_le 1 n && nat_le n 255 then Some n else None
+width_in (Number n) (Some b) = None
+width_in (Global n) b = None
+
+abbrev pub width_from : Option Sum → Option ℕ
+width_from None = None
+width_from (Some s) = width_in s.first s.second
+
+abbrev pub width_of : Expr → Option ℕ
+width_of e = width_from (sum_of [] e)
+
+abbrev pub write : Option Sum → Option SimpleForm
+write None = None
+write (Some e) = Some (form.WriteLine e None)
+
+abbrev pub write_in : Option Sum → Option ℕ → Option SimpleForm
+write_in None w = None
+write_in (Some e) None = None
+write_in (Some e) (Some w) = Some (form.WriteLine e (Some w))
+
+abbrev pub writing_of : Texts → Expr → Option Expr → Option SimpleForm
+writing_of vars e None = write (sum_of vars e)
+writing_of vars e (Some w) = write_in (sum_of vars e) (width_of w)
+
+abbrev pub one_argument : Texts → List Arg → Option SimpleForm
+one_argument vars [] = None
+one_argument vars (a ∷ []) = writing_of vars (out-Arg a).value (out-Arg a).width
+one_argument vars (a ∷ b ∷ args) = None
+
+abbrev pub call_of : Texts → List ℕ → List Arg → Option SimpleForm
+call_of vars x args = if bytes_eq x (codes "writeln") then one_argument vars args else None
+
+-- the statements that have a block, in the order of the text, if all are simple
+abbrev pub Leaves : Type 0
+Leaves = Option (List Statement)
+
+abbrev pub leaf : ℕ → Option SimpleForm → Leaves
+leaf n None = None
+leaf n (Some f) = Some (record { name = n; form = f } ∷ [])
+
+abbrev pub both : Leaves → Leaves → Leaves
+both None r = None
+both (Some xs) None = None
+both (Some xs) (Some ys) = Some (xs ++ ys)
+
+abbrev pub joined : List Leaves → Leaves
+joined [] = Some []
+joined (r ∷ rs) = both r (joined rs)
+
+abbrev pub in_kind : Texts → StmtKind-F (ℕ → Leaves) Leaves Leaves → ℕ → Leaves
+in_kind vars StmtKind-F.Empty n = leaf n (Some form.Empty)
+in_kind vars (StmtKind-F.Assign a e) n = leaf n (assignment_of vars a e)
+in_kind vars (StmtKind-F.Call x args) n = leaf n (call_of vars x args)
+in_kind vars (StmtKind-F.Compound rs) n = joined rs
+in_kind vars _ n = None
+
+abbrev pub in_arm : Arm-F (ℕ → Leaves) Leaves Leaves → Leaves
+in_arm a = None
+
+abbrev pub unlabelled : Option ℕ → Leaves → Leaves
+unlabelled None r = r
+unlabelled (Some label) r = None
+
+abbrev pub in_stmt : Stmt-F (ℕ → Leaves) Leaves Leaves → Leaves
+in_stmt s = unlabelled s.label (s.kind s.name.0)
+
+unfoldable pub kind_of : Texts → StmtKind → ℕ → Leaves
+kind_of vars = fold-StmtKind (ℕ → Leaves) Leaves Leaves (in_kind vars) in_arm in_stmt
+
+unfoldable pub stmt_of : Texts → Stmt → Leaves
+stmt_of vars = fold-Stmt (ℕ → Leaves) Leaves Leaves (in_kind vars) in_arm in_stmt
+
+abbrev pub stmts_of : Texts → List Stmt → Leaves
+stmts_of vars ss = joined (map (stmt_of vars) ss)
+
+-- ---- programs
+
+-- an identifier that hides none of those that a simple program uses
+abbrev pub is_free : List ℕ → Bool
+is_free x = not (bytes_eq x (codes "integer")) && not (bytes_eq x (codes "writeln"))
+
+abbrev pub all_new : Texts → Bool
+all_new [] = true
+all_new (x ∷ xs) = is_free x && not (is_some (place_of xs x)) && all_new xs
+
+abbrev pub are_variables : Texts → Bool
+are_variables xs = nat_le 1 (length xs) && nat_le (length xs) 64 && all_new xs
+
+abbrev pub is_integer : TypeText-F TypeText FieldText → Bool
+is_integer (TypeText-F.Named x) = bytes_eq x (codes "integer")
+is_integer _ = false
+
+-- names rise in the order of the text, as the parser gives them
+abbrev pub rises : ℕ → List Statement → Bool
+rises n [] = true
+rises n (s ∷ ss) = nat_lt n s.name && rises s.name ss
+
+abbrev pub named_well : Leaves → Leaves
+named_well None = None
+named_well (Some ss) = if rises 1 ss then Some ss else None
+
+abbrev pub by_decl : DeclKind → Stmt → Leaves
+by_decl (VarDecl xs t) body = if is_integer (out-TypeText t) && are_variables xs then named_well (stmt_of xs body) else None
+by_decl _ body = None
+
+abbrev pub by_vars : List Decl → Stmt → Leaves
+by_vars [] body = None
+by_vars (d ∷ []) body = by_decl d.kind body
+by_vars (d ∷ e ∷ ds) body = None
+
+abbrev pub is_nil : {A : Type 0} → List A → Bool
+is_nil [] = true
+is_nil (x ∷ xs) = false
+
+-- no part of the block but that of variables
+abbrev pub has_variables_alone : Block → Bool
+has_variables_alone b =
+    not (is_some (out-Block b).labels) && is_nil (out-Block b).consts && is_nil (out-Block b).types && is_nil (out-Block b).routines
+
+-- the program's statements, resolved
+abbrev pub resolved : Program → Leaves
+resolved p = if is_nil p.files && has_variables_alone p.block then by_vars (out-Block p.block).vars (out-Block p.block).body else None
+
+-- ---- the answer of the code
+
+-- more statements behind those that are there
+abbrev pub prepended : List Statement → Leaves → Leaves
+prepended xs None = None
+prepended xs (Some ys) = Some (xs ++ ys)
+
+abbrev pub answered : Bool → List Statement → Leaves
+answered true xs = Some xs
+answered false xs = None
+
+abbrev pub statements_in : Option SimpleProgram → Leaves
+statements_in None = None
+statements_in (Some p) = Some p.statements.items

@@ -1,0 +1,284 @@
+//! A simple program, and programs that differ from it at one place.
+use super::*;
+use dice_base::{Name, NoMemory, Text};
+use pascal_semantics::{Operand, SimpleForm, Statement, Sum};
+use program_tree::{
+    Access, AddOp, AddPart, Arg, Block, Decl, DeclKind, Expr, Factor, Prefix, Program, Stmt,
+    StmtKind, SumExpr, Term, TypeText,
+};
+use sqlite_items::Items;
+use std::alloc::Global;
+use std::test::Fail;
+
+// `program p; var FIRST, SECOND: SHAPE; begin TARGET := a OP NUMBER; ; begin CALL(b : WIDTH) end end.`
+#[derive(Clone, Copy)]
+struct Case {
+    first: &'static [u8],
+    second: &'static [u8],
+    shape: &'static [u8],
+    target: &'static [u8],
+    op: AddOp,
+    number: u16,
+    call: &'static [u8],
+    width: u16,
+    last_name: u32,
+    label: Option<u16>,
+}
+
+const SIMPLE: Case = Case {
+    first: b"a",
+    second: b"b",
+    shape: b"integer",
+    target: b"b",
+    op: AddOp::Plus,
+    number: 7,
+    call: b"writeln",
+    width: 255,
+    last_name: 7,
+    label: None,
+};
+
+fn variable(alloc: Global, ident: &[u8]) -> Result<Access, NoMemory> {
+    Ok(Access {
+        ident: Text::from_slice(alloc, ident)?,
+        parts: Items::new(alloc),
+    })
+}
+
+fn term(alloc: Global, first: Factor) -> Term {
+    Term {
+        first,
+        rest: Items::new(alloc),
+    }
+}
+
+fn expr(alloc: Global, first: Factor, rest: Items<AddPart>) -> Expr {
+    Expr {
+        first: SumExpr {
+            prefix: Prefix::Without,
+            first: term(alloc, first),
+            rest,
+        },
+        rest: None,
+    }
+}
+
+fn stmt(name: u32, label: Option<u16>, kind: StmtKind) -> Stmt {
+    Stmt {
+        name: Name(name),
+        label,
+        kind,
+    }
+}
+
+fn assignment(alloc: Global, case: Case) -> Result<Stmt, NoMemory> {
+    let mut rest = Items::new(alloc);
+    rest.push(AddPart {
+        op: case.op,
+        right: term(alloc, Factor::Number(case.number)),
+    })?;
+    let value = expr(alloc, Factor::Access(variable(alloc, b"a")?), rest);
+    let target = variable(alloc, case.target)?;
+    Ok(stmt(4, case.label, StmtKind::Assign(target, value)))
+}
+
+fn call(alloc: Global, case: Case) -> Result<Stmt, NoMemory> {
+    let value = expr(
+        alloc,
+        Factor::Access(variable(alloc, b"b")?),
+        Items::new(alloc),
+    );
+    let width = expr(alloc, Factor::Number(case.width), Items::new(alloc));
+    let mut args = Items::new(alloc);
+    args.push(Arg {
+        value,
+        width: Some(width),
+    })?;
+    let ident = Text::from_slice(alloc, case.call)?;
+    let mut stmts = Items::new(alloc);
+    stmts.push(stmt(case.last_name, None, StmtKind::Call(ident, args)))?;
+    Ok(stmt(6, None, StmtKind::Compound(stmts)))
+}
+
+fn body(alloc: Global, case: Case) -> Result<Stmt, NoMemory> {
+    let mut stmts = Items::new(alloc);
+    stmts.push(assignment(alloc, case)?)?;
+    stmts.push(stmt(5, None, StmtKind::Empty))?;
+    stmts.push(call(alloc, case)?)?;
+    Ok(stmt(3, None, StmtKind::Compound(stmts)))
+}
+
+fn declaration(alloc: Global, case: Case) -> Result<Decl, NoMemory> {
+    let mut idents = Items::new(alloc);
+    idents.push(Text::from_slice(alloc, case.first)?)?;
+    idents.push(Text::from_slice(alloc, case.second)?)?;
+    let shape = TypeText::Named(Text::from_slice(alloc, case.shape)?);
+    Ok(Decl {
+        name: Name(2),
+        kind: DeclKind::VarDecl(idents, shape),
+    })
+}
+
+fn program(alloc: Global, case: Case) -> Result<Program, NoMemory> {
+    let mut vars = Items::new(alloc);
+    vars.push(declaration(alloc, case)?)?;
+    Ok(Program {
+        ident: Text::from_slice(alloc, b"p")?,
+        files: Items::new(alloc),
+        block: Block {
+            labels: None,
+            consts: Items::new(alloc),
+            types: Items::new(alloc),
+            vars,
+            routines: Items::new(alloc),
+            body: body(alloc, case)?,
+        },
+        next: 8,
+    })
+}
+
+fn is_simple(alloc: Global, case: Case) -> Result<bool, NoMemory> {
+    let program = program(alloc, case)?;
+    let resolved = resolve_program(alloc, &program)?;
+    Ok(resolved.is_some())
+}
+
+const SUM: Sum = Sum {
+    first: Operand::Global(0),
+    second: Some(Operand::Number(7)),
+};
+
+const WRITTEN: Sum = Sum {
+    first: Operand::Global(1),
+    second: None,
+};
+
+fn is_expected(answer: &Option<SimpleProgram>) -> bool {
+    let Some(simple) = answer else {
+        return false;
+    };
+    let expected = [
+        Statement {
+            name: 4,
+            form: SimpleForm::Assign(1, SUM),
+        },
+        Statement {
+            name: 5,
+            form: SimpleForm::Empty,
+        },
+        Statement {
+            name: 7,
+            form: SimpleForm::WriteLine(WRITTEN, Some(255)),
+        },
+    ];
+    simple.statements.as_slice() == expected.as_slice()
+}
+
+#[test]
+fn resolves_a_simple_program(rt: HostRuntime) -> Result<(), Fail> {
+    let program = program(rt.alloc(), SIMPLE)?;
+    let answer = resolve_program(rt.alloc(), &program)?;
+    assert!(rt; is_expected(&answer));
+    Ok(())
+}
+
+#[test]
+fn refuses_other_declarations(rt: HostRuntime) -> Result<(), Fail> {
+    let twice = is_simple(
+        rt.alloc(),
+        Case {
+            second: b"a",
+            ..SIMPLE
+        },
+    )?;
+    let integer = is_simple(
+        rt.alloc(),
+        Case {
+            second: b"integer",
+            ..SIMPLE
+        },
+    )?;
+    let writeln = is_simple(
+        rt.alloc(),
+        Case {
+            second: b"writeln",
+            ..SIMPLE
+        },
+    )?;
+    let other_type = is_simple(
+        rt.alloc(),
+        Case {
+            shape: b"char",
+            ..SIMPLE
+        },
+    )?;
+    let undeclared = is_simple(
+        rt.alloc(),
+        Case {
+            target: b"c",
+            ..SIMPLE
+        },
+    )?;
+    assert_eq!(rt;
+        [twice, integer, writeln, other_type, undeclared],
+        [false; 5]
+    );
+    Ok(())
+}
+
+#[test]
+fn refuses_other_statements(rt: HostRuntime) -> Result<(), Fail> {
+    let minus = is_simple(
+        rt.alloc(),
+        Case {
+            op: AddOp::Minus,
+            ..SIMPLE
+        },
+    )?;
+    let large = is_simple(
+        rt.alloc(),
+        Case {
+            number: 32768,
+            ..SIMPLE
+        },
+    )?;
+    let wide = is_simple(
+        rt.alloc(),
+        Case {
+            width: 256,
+            ..SIMPLE
+        },
+    )?;
+    let other_call = is_simple(
+        rt.alloc(),
+        Case {
+            call: b"write",
+            ..SIMPLE
+        },
+    )?;
+    let labelled = is_simple(
+        rt.alloc(),
+        Case {
+            label: Some(1),
+            ..SIMPLE
+        },
+    )?;
+    assert_eq!(rt; [minus, large, wide, other_call, labelled], [false; 5]);
+    let edge = is_simple(
+        rt.alloc(),
+        Case {
+            number: 32767,
+            width: 1,
+            ..SIMPLE
+        },
+    )?;
+    let same_name = is_simple(
+        rt.alloc(),
+        Case {
+            last_name: 5,
+            ..SIMPLE
+        },
+    )?;
+    assert_eq!(rt; [edge, same_name], [true, false]);
+    Ok(())
+}
