@@ -73,7 +73,7 @@ const RUNS: [(&str, &str); 22] = [
     ),
     (
         "load\nprogram e; var x: integer; begin end.\n.\nrun 1\nrun 1\n",
-        "loaded 2 blocks 40 words\nstopped at 4\nended\n",
+        "loaded 2 blocks 40 words\nended\nalready ended\n",
     ),
     // No program.
     ("run 1\n", "no program\n"),

@@ -6,3 +6,4 @@ pub mod Loaded
 pub mod Texts
 pub mod Readings
 pub mod Sessions
+mod Examples

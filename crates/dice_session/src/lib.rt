@@ -7,6 +7,8 @@ mod reading;
 mod reply;
 mod running;
 mod session;
+#[cfg(test)]
+mod tests;
 mod text;
 
 pub use session::Session;

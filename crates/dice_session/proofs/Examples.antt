@@ -1,0 +1,88 @@
+-- Transcripts of worked scripts.
+use Rattle.std.proofs.Common.{◌≡◌, ℕ, List, [], ◌∷◌, ◌++◌, Some, None, refl}
+use Rattle.std.specs.Prelude.{codes}
+use Rattle.std.specs.Fmt.{digits}
+use Rattle.pascal_semantics.specs.declared.form.Operand.TheVariants.{Global, Number}
+use Rattle.pascal_semantics.specs.declared.form.SimpleForm.TheVariants.{Assign, WriteLine, Empty}
+use Rattle.pascal_semantics.specs.declared.form.Statement.{Statement}
+use Rattle.pascal_semantics.specs.Program.{program_of}
+use Rattle.pascal_semantics.specs.State.{loaded_state}
+use Rattle.pascal_semantics.specs.Run.{settled, driven, run_of}
+use Rattle.dice_command.specs.declared.command.LineCommand.TheVariants.{Load, Run, Quit, Unbuilt}
+use Rattle.dice_session.specs.Reading.{TooLong, NotBuilt, Program}
+use Rattle.dice_session.specs.World.{Command, Line, TextLine, TextEnd, Nothing, line, loaded_reply, run_reply, reply_of, transcript_of}
+
+-- the commands of `load`, the text of a program, and `.`
+abbrev load_of : List Statement → List Command
+load_of ss = Line Load ∷ TextLine (codes "program ..") ∷ TextEnd (Program ss) ∷ []
+
+-- program m; var i, s: integer; begin i := 2; s := i + 40; writeln(s:1) end.
+abbrev answer : List Statement
+answer =
+    record { name = 4; form = Assign 0 (record { first = Number 2; second = None }) }
+    ∷ record { name = 5; form = Assign 1 (record { first = Global 0; second = Some (Number 40) }) }
+    ∷ record { name = 6; form = WriteLine (record { first = Global 1; second = None }) (Some 1) }
+    ∷ []
+
+answer_told : transcript_of (load_of answer ++ Line (Run 1000000) ∷ []) ≡ line (codes "loaded 4 blocks 188 words") ++ line (codes "output 3") ++ line (codes "42") ++ line (codes "ended")
+unfolding settled driven digits reply_of
+answer_told = refl
+
+-- program o; var x: integer; begin x := 32767; x := x + 1 end.
+abbrev too_large : List Statement
+too_large =
+    record { name = 4; form = Assign 0 (record { first = Number 32767; second = None }) }
+    ∷ record { name = 5; form = Assign 0 (record { first = Global 0; second = Some (Number 1) }) }
+    ∷ []
+
+too_large_told : transcript_of (load_of too_large ++ Line (Run 9) ∷ Line (Run 9) ∷ []) ≡ line (codes "loaded 3 blocks 132 words") ++ line (codes "error 3 at 5") ++ line (codes "already ended")
+unfolding settled driven digits reply_of
+too_large_told = refl
+
+-- a run of fewer gates stops before its next statement, and another goes on from there
+answer_twice : transcript_of (load_of answer ++ Line (Run 1) ∷ Line (Run 1) ∷ Line (Run 5) ∷ []) ≡ line (codes "loaded 4 blocks 188 words") ++ line (codes "stopped at 5") ++ line (codes "stopped at 6") ++ line (codes "output 3") ++ line (codes "42") ++ line (codes "ended")
+unfolding settled driven digits reply_of
+answer_twice = refl
+
+-- a second load begins anew, and one that is refused leaves the program where it is
+load_twice : transcript_of (load_of answer ++ Line (Run 1) ∷ Line Load ∷ TextEnd NotBuilt ∷ Line (Run 1) ∷ load_of too_large ++ Line (Run 1) ∷ [])
+    ≡ line (codes "loaded 4 blocks 188 words") ++ line (codes "stopped at 5") ++ line (codes "not built") ++ line (codes "stopped at 6") ++ line (codes "loaded 3 blocks 132 words") ++ line (codes "stopped at 5")
+unfolding settled driven digits reply_of
+load_twice = refl
+
+-- no program, and what stands behind `quit`
+none_told : transcript_of (Line (Run 1) ∷ Line Unbuilt ∷ Line Quit ∷ Nothing ∷ []) ≡ line (codes "no program") ++ line (codes "not built")
+unfolding reply_of
+none_told = refl
+
+-- a program with an empty statement, `begin ; writeln(7) end`, whose statements are 4 and 9
+abbrev with_empty : List Statement
+with_empty = record { name = 4; form = Empty } ∷ record { name = 9; form = WriteLine (record { first = Number 7; second = None }) None } ∷ []
+
+abbrev told_of : List Statement → ℕ → List ℕ
+told_of ss gates = run_reply (run_of (program_of ss) gates loaded_state)
+
+with_empty_loaded : loaded_reply with_empty ≡ line (codes "loaded 3 blocks 84 words")
+unfolding digits
+with_empty_loaded = refl
+
+with_empty_stops : told_of with_empty 1 ≡ line (codes "stopped at 9")
+unfolding settled driven digits
+with_empty_stops = refl
+
+with_empty_ends : told_of with_empty 2 ≡ line (codes "output 9") ++ line (codes "       7") ++ line (codes "ended")
+unfolding settled driven digits
+with_empty_ends = refl
+
+-- a program with no statement ends at once, `begin end` with its one empty statement at its first gate
+none_loaded : loaded_reply [] ≡ line (codes "loaded 1 blocks 32 words")
+unfolding digits
+none_loaded = refl
+
+none_ends : told_of [] 1 ≡ line (codes "ended")
+unfolding settled driven digits
+none_ends = refl
+
+empty_ends : told_of (record { name = 4; form = Empty } ∷ []) 1 ≡ line (codes "ended")
+unfolding settled driven digits
+empty_ends = refl
