@@ -7,7 +7,8 @@
 use Rattle.std.specs.Prelude.{ℕ, ◌+◌, ◌-◌, ◌*◌, ◌/◌, ◌%◌, Bool, true, false, ◌||◌, nat_le, nat_eq, if◌then◌else◌, Option, Some}
 use Rattle.pdp11_code.specs.declared.instr.Ea.{Ea}
 use Rattle.pdp11_machine.specs.declared.Place.TheVariants.{Cell}
-use Rattle.pdp11_machine.specs.State.{State, Flags, reg, with_reg, word_at, with_status, not, differs}
+use Rattle.pdp11_machine.specs.State.{State, Flags, reg, with_reg, word_at, with_status}
+use Rattle.pdp11_arithmetic.specs.Bits.{not, differs}
 use Rattle.pdp11_machine.specs.Operands.{and_then, addressed, stored}
 
 -- the branch of this high byte is taken: BR BNE BEQ BGE BLT BGT BLE from 1 on, BPL BMI BHI BLOS BVC BVS BCC BCS from 128 on

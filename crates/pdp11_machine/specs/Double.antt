@@ -6,9 +6,11 @@ use Rattle.std.specs.Prelude.{ℕ, ◌+◌, ◌-◌, ◌%◌, Bool, true, false,
 use Rattle.pdp11_code.specs.declared.instr.Ea.{Ea}
 use Rattle.pdp11_machine.specs.declared.Place.{Place}
 use Rattle.pdp11_machine.specs.declared.Place.TheVariants.{Register}
-use Rattle.pdp11_machine.specs.State.{State, with_reg, not}
+use Rattle.pdp11_machine.specs.State.{State, with_reg}
 use Rattle.pdp11_machine.specs.Operands.{and_then, placed, loaded, loaded_by, stored, stored_by, with_flags}
-use Rattle.pdp11_machine.specs.Words.{flags_of, flags_by, sum_overflows, difference, difference_leaves}
+use Rattle.pdp11_machine.specs.Words.{flags_of, flags_by}
+use Rattle.pdp11_arithmetic.specs.Bits.{not}
+use Rattle.pdp11_arithmetic.specs.Words.{sum_overflows, difference, difference_leaves}
 
 -- a byte as a word of the same signed value
 abbrev pub extended : ℕ → ℕ

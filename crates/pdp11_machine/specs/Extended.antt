@@ -5,11 +5,12 @@
 -- which is taken after the operand's address is worked out, but that of XOR, its source, before.
 use Rattle.std.specs.Prelude.{ℕ, ◌+◌, ◌-◌, ◌*◌, ◌/◌, ◌%◌, ◌^◌, Bool, true, false, nat_lt, nat_le, nat_eq, if◌then◌else◌, Option, Some, None, bit_xor}
 use Rattle.pdp11_code.specs.declared.instr.Ea.{Ea}
-use Rattle.pdp11_machine.specs.State.{State, Flags, reg, with_reg, differs}
+use Rattle.pdp11_machine.specs.State.{State, Flags, reg, with_reg}
 use Rattle.pdp11_machine.specs.Operands.{and_then, placed, loaded}
 use Rattle.pdp11_machine.specs.Words.{flags_of}
 use Rattle.pdp11_machine.specs.Double.{logic_stored}
-use Rattle.pdp11_machine.specs.Arithmetic.{is_negative, leaves_word, product, product_size, divided, wide_left, wide_right, sign_changes}
+use Rattle.pdp11_arithmetic.specs.Bits.{differs}
+use Rattle.pdp11_arithmetic.specs.Arithmetic.{is_negative, leaves_word, product, product_size, divided, wide_left, wide_right, sign_changes}
 
 -- the register behind an even one
 abbrev pub pair_of : ℕ → ℕ

@@ -2,9 +2,7 @@ pub mod State
 pub mod Operands
 pub mod Words
 pub mod Double
-pub mod Outcome
 pub mod Single
-pub mod Arithmetic
 pub mod Extended
 pub mod Control
 pub mod TakeTrap

@@ -4,11 +4,12 @@
 -- trap the flags stay.
 use Rattle.std.specs.Prelude.{ℕ, ◌+◌, ◌*◌, ◌/◌, ◌%◌, Bool, true, false, nat_eq, if◌then◌else◌, Option, Some}
 use Rattle.pdp11_code.specs.declared.instr.Ea.{Ea}
-use Rattle.pdp11_machine.specs.declared.outcome.Outcome.{Outcome}
-use Rattle.pdp11_machine.specs.State.{State, Flags, with_reg, not}
+use Rattle.pdp11_arithmetic.specs.declared.outcome.Outcome.{Outcome}
+use Rattle.pdp11_machine.specs.State.{State, Flags, with_reg}
+use Rattle.pdp11_arithmetic.specs.Bits.{not}
 use Rattle.pdp11_machine.specs.Operands.{and_then, addressed, placed, loaded, loaded_by, stored, stored_by, with_flags}
 use Rattle.pdp11_machine.specs.Words.{flags_of, flags_by}
-use Rattle.pdp11_machine.specs.Outcome.{outcome_of}
+use Rattle.pdp11_arithmetic.specs.Outcome.{outcome_of}
 
 -- JMP: PC goes to the operand's address, which may be odd
 abbrev pub jumped : Ea → State → State × Option Unit

@@ -1,6 +1,7 @@
 -- What clauses see of a machine, and its smallest parts: the memory, the general registers and the processor status
 -- word of the PDP-11/40 Processor Handbook, chapters 2 and 3.
-use Rattle.std.specs.Prelude.{◌≡◌, ℕ, ◌+◌, ◌*◌, ◌/◌, ◌%◌, ◌<◌, Bool, true, false, ◌&&◌, nat_lt, nat_eq, if◌then◌else◌, Option, Some, None, List, length, slice_index, slice_set, replicate}
+use Rattle.std.specs.Prelude.{◌≡◌, ℕ, ◌+◌, ◌*◌, ◌/◌, ◌%◌, ◌<◌, Bool, false, ◌&&◌, nat_lt, nat_eq, if◌then◌else◌, Option, Some, None, List, length, slice_index, slice_set, replicate}
+use Rattle.pdp11_arithmetic.specs.Bits.{bit_of}
 
 pub record Flags : Type 0 where
   pub negative : Bool
@@ -15,14 +16,6 @@ pub record State : Type 0 where
   pub registers : List ℕ
   pub flags : Flags
   pub upper : ℕ
-
-abbrev pub not : Bool → Bool
-not true = false
-not false = true
-
-abbrev pub differs : Bool → Bool → Bool
-differs true b = not b
-differs false b = b
 
 abbrev pub reg : State → ℕ → ℕ
 reg s r = slice_index s.registers r
@@ -40,9 +33,6 @@ word_at s a = if is_place a then Some (slice_index s.memory (a / 2)) else None
 
 abbrev pub with_word : State → ℕ → ℕ → State
 with_word s a word = record s { memory = slice_set s.memory (a / 2) word }
-
-abbrev pub bit_of : Bool → ℕ
-bit_of b = if b then 1 else 0
 
 -- the processor status word: N Z V C are bits 3 to 0
 abbrev pub status_of : State → ℕ

@@ -1,14 +1,8 @@
--- What the flags say of words and bytes: PDP-11/40 Processor Handbook, chapter 4. A value is negative from half of its
--- range on.
-use Rattle.std.specs.Prelude.{ℕ, ◌+◌, ◌-◌, ◌%◌, Bool, false, ◌&&◌, nat_lt, nat_le, nat_eq, if◌then◌else◌}
+-- What the flags say of words and bytes: PDP-11/40 Processor Handbook, chapter 4.
+use Rattle.std.specs.Prelude.{ℕ, Bool, false, nat_le, nat_eq}
+use Rattle.pdp11_arithmetic.specs.Words.{half}
 use Rattle.pdp11_machine.specs.State.{Flags}
-
--- how many values a byte or a word has, and the least negative one
-abbrev pub whole : Bool → ℕ
-whole byte = if byte then 256 else 65536
-
-abbrev pub half : Bool → ℕ
-half byte = if byte then 128 else 32768
+pub use Rattle.pdp11_arithmetic.specs.Words.{sum_overflows, difference_overflows}
 
 -- the flags of a result
 abbrev pub flags_by : Bool → ℕ → Bool → Bool → Flags
@@ -16,19 +10,3 @@ flags_by byte value overflow carry = record { negative = nat_le (half byte) valu
 
 abbrev pub flags_of : ℕ → Bool → Bool → Flags
 flags_of = flags_by false
-
--- the sum of two words does not fit a signed word
-abbrev pub sum_overflows : ℕ → ℕ → Bool
-sum_overflows a b = if nat_le 32768 a then nat_le 32768 b && nat_lt (a + b) 98304 else nat_lt b 32768 && nat_le 32768 (a + b)
-
-abbrev pub difference : Bool → ℕ → ℕ → ℕ
-difference byte a b = (a + whole byte - b) % whole byte
-
--- the difference of two bytes or words does not fit a signed one
-abbrev pub difference_leaves : Bool → ℕ → ℕ → Bool
-difference_leaves byte a b =
-    if nat_le (half byte) a then nat_lt b (half byte) && nat_lt (difference byte a b) (half byte)
-    else nat_le (half byte) b && nat_le (half byte) (difference byte a b)
-
-abbrev pub difference_overflows : ℕ → ℕ → Bool
-difference_overflows = difference_leaves false

@@ -2,12 +2,12 @@
 
 ghost use Rattle.std.specs.Prelude.{◌≡◌, ℕ, ◌+◌, ◌-◌, ◌%◌, ◌<◌, Some, None};
 ghost use Rattle.pdp11_machine.specs.State.{State};
-ghost use Rattle.pdp11_machine.specs.Words.{whole};
+ghost use Rattle.pdp11_arithmetic.specs.Words.{whole};
 ghost use Rattle.pdp11_machine.specs.Operands.{IsRegistered, placed, loaded, stored};
 ghost use Rattle.pdp11_machine.specs.Double.{extended, stored_moved, moved, compared, bits_tested, logic_stored, bits_cleared, bits_set, added, subtracted, combined, is_byte, two_done};
 
-use crate::words::{difference_leaves_range, difference_of, sum_leaves_range};
 use crate::{Machine, Place};
+use pdp11_arithmetic::{difference_leaves_range, difference_of, sum_leaves_range};
 use pdp11_code::Ea;
 
 impl Machine {

@@ -5,7 +5,7 @@ ghost use Rattle.pdp11_machine.specs.State.{State};
 ghost use Rattle.pdp11_machine.specs.Extended.{pair_of, product_stored, multiplied, quotient_stored, left_stored, right_stored, shift_stored, computed, exclusive_or_stored, operand_computed, extended_done, undivided_flags};
 
 use crate::Machine;
-use crate::arithmetic::{
+use pdp11_arithmetic::{
     changes_sign, division_of, product_leaves_range, product_of, wide_left_of, wide_right_of,
 };
 use pdp11_code::Ea;

@@ -1,18 +1,17 @@
 //! The emulated PDP-11/40: its memory, registers and status word, and one step. The instructions are those of
-//! `pdp11_code`.
+//! `pdp11_code`, and their arithmetic is that of `pdp11_arithmetic`.
 #![tactic(auto)]
 
 ghost use Rattle.std.specs.Prelude.{◌≡◌, ℕ, ◌+◌, ◌*◌, ◌/◌, ◌%◌, ◌<◌, IfOk, slice_index, length};
-ghost use Rattle.pdp11_machine.specs.State.{State, Flags, IsMachine, reg, with_reg, with_word, bit_of, status_of, with_status, zero_machine};
+ghost use Rattle.pdp11_machine.specs.State.{State, Flags, IsMachine, reg, with_reg, with_word, status_of, with_status, zero_machine};
+ghost use Rattle.pdp11_arithmetic.specs.Bits.{bit_of};
 ghost use Rattle.pdp11_machine.specs.TakeTrap.{trap_taken};
 ghost use Rattle.pdp11_machine.specs.Step.{machine_step};
 
-mod arithmetic;
 mod control;
 mod double;
 mod extended;
 mod operands;
-mod outcome;
 mod reset;
 mod single;
 mod step;

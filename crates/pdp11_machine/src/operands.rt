@@ -3,7 +3,7 @@
 ghost use Rattle.std.specs.Prelude.{◌≡◌, ℕ, ◌+◌, ◌-◌, ◌*◌, ◌/◌, ◌%◌, ◌<◌, ◌≤◌, List, length, Some, None, if◌then◌else◌, IfSome};
 ghost use Rattle.pdp11_machine.specs.State.{State, reg, with_reg, is_place, word_at, with_word};
 ghost use Rattle.pdp11_machine.specs.Operands.{fetched, step_of, incremented, decremented, indexed, behind, addressed, placed, IsRegistered, loaded, stored, byte_at, with_byte, loaded_byte, stored_byte, loaded_by, stored_by};
-ghost use Rattle.pdp11_machine.specs.Words.{whole};
+ghost use Rattle.pdp11_arithmetic.specs.Words.{whole};
 
 use crate::{Machine, Place};
 

@@ -5,7 +5,7 @@ ghost use Rattle.pdp11_machine.specs.State.{State};
 ghost use Rattle.pdp11_machine.specs.Single.{jumped, cleared, tested, swapped, sign_stored, changed, one_done};
 
 use crate::Machine;
-use crate::outcome::apply;
+use pdp11_arithmetic::apply;
 use pdp11_code::Ea;
 
 impl Machine {

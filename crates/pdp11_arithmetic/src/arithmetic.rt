@@ -1,8 +1,8 @@
-//! Multiplication, division and shifts of signed words.
+//! Multiplication, division and shifts of signed words: PDP-11/40 Processor Handbook, chapter 7.
 
 ghost use Rattle.std.specs.Prelude.{◌≡◌, ℕ, ◌+◌, ◌-◌, ◌*◌, ◌/◌, ◌%◌, ◌^◌, ◌<◌, ◌≤◌};
-ghost use Rattle.pdp11_machine.specs.State.{differs};
-ghost use Rattle.pdp11_machine.specs.Arithmetic.{is_negative, size, with_sign, leaves_word, product_size, product, pair_size, divided, wide_left, sign_changes, wide_right};
+ghost use Rattle.pdp11_arithmetic.specs.Bits.{differs};
+ghost use Rattle.pdp11_arithmetic.specs.Arithmetic.{is_negative, size, with_sign, leaves_word, product_size, product, pair_size, divided, wide_left, sign_changes, wide_right};
 
 fn is_below_zero(word: u16) -> bool
     ensures { result ≡ is_negative word }
@@ -27,7 +27,8 @@ fn leaves_range(negative: bool, size: u64) -> bool
     if negative { size > 32768 } else { size > 32767 }
 }
 
-pub(crate) fn product_of(a: u16, b: u16) -> u32
+/// The product of two signed words in 32 bits: MUL.
+pub fn product_of(a: u16, b: u16) -> u32
     ensures { result ≡ product a b }
 {
     let size = size_of(a) * size_of(b);
@@ -38,7 +39,8 @@ pub(crate) fn product_of(a: u16, b: u16) -> u32
     }
 }
 
-pub(crate) fn product_leaves_range(a: u16, b: u16) -> bool
+/// Whether the product of two signed words does not fit a signed word: C of MUL.
+pub fn product_leaves_range(a: u16, b: u16) -> bool
     ensures { result ≡ leaves_word (differs (is_negative a) (is_negative b)) (product_size a b) }
 {
     leaves_range(
@@ -69,8 +71,9 @@ fn word_of(negative: bool, size: u64) -> u16
     }
 }
 
-// The quotient and the remainder, or none where the quotient does not fit a word.
-pub(crate) fn division_of(high: u16, low: u16, divisor: u16) -> Option<(u16, u16)>
+/// The quotient and the remainder of the signed 32 bits of `high` and `low` by a word: DIV. The quotient is rounded
+/// towards 0, and the remainder has the sign of what is divided. None where the quotient does not fit a word.
+pub fn division_of(high: u16, low: u16, divisor: u16) -> Option<(u16, u16)>
     requires { 0 < divisor }
     ensures { result ≡ divided high low divisor }
 {
@@ -87,7 +90,8 @@ pub(crate) fn division_of(high: u16, low: u16, divisor: u16) -> Option<(u16, u16
     }
 }
 
-pub(crate) fn wide_left_of(word: u16, count: u16) -> u64
+/// A word shifted left by so many bits, with no bit lost: ASH.
+pub fn wide_left_of(word: u16, count: u16) -> u64
     requires { count < 32 }
     ensures value { result ≡ wide_left word count }
     ensures small { result < 2 ^ 48 }
@@ -95,7 +99,8 @@ pub(crate) fn wide_left_of(word: u16, count: u16) -> u64
     (word as u64) << count
 }
 
-pub(crate) fn changes_sign(word: u16, count: u16) -> bool
+/// Whether the sign changes at any time while a word is shifted left by so many bits: V of ASH.
+pub fn changes_sign(word: u16, count: u16) -> bool
     requires { count < 32 }
     ensures { result ≡ sign_changes word count }
 {
@@ -103,7 +108,8 @@ pub(crate) fn changes_sign(word: u16, count: u16) -> bool
     !(passed == 0 || passed + 1 == 2u64 << count)
 }
 
-pub(crate) fn wide_right_of(word: u16) -> u64
+/// A word with its sign extended to 48 bits, to be shifted right by 32 at most: ASH.
+pub fn wide_right_of(word: u16) -> u64
     ensures { result ≡ wide_right word }
 {
     if is_below_zero(word) {

@@ -1,7 +1,7 @@
 -- Multiplication, division and shifts of signed words: PDP-11/40 Processor Handbook, chapter 7, extended instruction set.
 -- A signed number is a sign and a size here.
 use Rattle.std.specs.Prelude.{ℕ, ◌+◌, ◌-◌, ◌*◌, ◌/◌, ◌%◌, ◌^◌, Bool, ◌||◌, nat_lt, nat_le, nat_eq, if◌then◌else◌, Option, Some, None}
-use Rattle.pdp11_machine.specs.State.{not, differs}
+use Rattle.pdp11_arithmetic.specs.Bits.{not, differs}
 
 abbrev pub is_negative : ℕ → Bool
 is_negative w = nat_le 32768 w

@@ -1,17 +1,20 @@
-//! What the instructions of one operand make of its value.
+//! What the instructions of one operand make of its value: PDP-11/40 Processor Handbook, chapter 4.
 
 ghost use Rattle.std.specs.Prelude.{◌≡◌, ℕ, ◌+◌, ◌-◌, ◌*◌, ◌/◌, ◌%◌, ◌<◌};
-ghost use Rattle.pdp11_machine.specs.Words.{whole, half};
-ghost use Rattle.pdp11_machine.specs.State.{bit_of};
-ghost use Rattle.pdp11_machine.specs.Outcome.{complement, increment, decrement, negation, carry_added, carry_subtracted, shifted, rotated_right, rotated_left, shifted_right, shifted_left, outcome_of};
+ghost use Rattle.pdp11_arithmetic.specs.Words.{whole, half};
+ghost use Rattle.pdp11_arithmetic.specs.Bits.{bit_of};
+ghost use Rattle.pdp11_arithmetic.specs.Outcome.{complement, increment, decrement, negation, carry_added, carry_subtracted, shifted, rotated_right, rotated_left, shifted_right, shifted_left, outcome_of};
 
 use crate::words::{half_of, whole_of};
 
 /// A new value, and V and C; N and Z are by the value.
 #[derive(Clone, Copy, Debug, PartialEq, Eq)]
-pub(crate) struct Outcome {
+pub struct Outcome {
+    /// A word, or a byte below 256.
     pub value: u16,
+    /// V.
     pub overflow: bool,
+    /// C.
     pub carry: bool,
 }
 
@@ -128,8 +131,10 @@ fn shift_left(byte: bool, v: u16) -> Outcome
     shifted(byte, value as u16, v >= half_of(byte))
 }
 
+/// What an instruction makes of a byte or a word at this carry. `op` is bits 6 to 14 of its word: 0o51 to 0o56 are COM,
+/// INC, DEC, NEG, ADC and SBC, 0o60 to 0o63 are ROR, ROL, ASR and ASL.
 #[tactic(auto, unfolding(crate::specs::Outcome::outcome_of))]
-pub(crate) fn apply(op: u8, byte: bool, carry: bool, v: u16) -> Outcome
+pub fn apply(op: u8, byte: bool, carry: bool, v: u16) -> Outcome
     requires { v < whole byte }
     ensures { result ≡ outcome_of op byte carry v }
 {

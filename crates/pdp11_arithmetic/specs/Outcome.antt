@@ -2,9 +2,9 @@
 -- Processor Handbook, chapter 4, single operand instructions. N and Z are by the new value. This project's own: C of SBC
 -- is the borrow.
 use Rattle.std.specs.Prelude.{ℕ, ◌+◌, ◌-◌, ◌*◌, ◌/◌, ◌%◌, Bool, true, false, ◌&&◌, nat_le, nat_eq, if◌then◌else◌}
-use Rattle.pdp11_machine.specs.declared.outcome.Outcome.{Outcome}
-use Rattle.pdp11_machine.specs.State.{not, differs, bit_of}
-use Rattle.pdp11_machine.specs.Words.{whole, half}
+use Rattle.pdp11_arithmetic.specs.declared.outcome.Outcome.{Outcome}
+use Rattle.pdp11_arithmetic.specs.Bits.{not, differs, bit_of}
+use Rattle.pdp11_arithmetic.specs.Words.{whole, half}
 
 -- COM
 abbrev pub complement : Bool → ℕ → Outcome

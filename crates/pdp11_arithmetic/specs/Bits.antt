@@ -1,0 +1,13 @@
+-- Flags as truth values and as bits.
+use Rattle.std.specs.Prelude.{ℕ, Bool, true, false, if◌then◌else◌}
+
+abbrev pub not : Bool → Bool
+not true = false
+not false = true
+
+abbrev pub differs : Bool → Bool → Bool
+differs true b = not b
+differs false b = b
+
+abbrev pub bit_of : Bool → ℕ
+bit_of b = if b then 1 else 0
