@@ -5,15 +5,14 @@ use Rattle.dice_base.specs.Lexemes.{Lexes}
 use Rattle.script_lines.specs.Front.{longest_text}
 use Rattle.program_tree.specs.declared.program.Program.{Program as Tree}
 use Rattle.program_tree.specs.Programs.{Derives}
-use Rattle.tree_names.specs.Naming.{numbered}
 use Rattle.simple_form.specs.Simple.{resolved}
 use Rattle.pascal_semantics.specs.declared.form.Statement.{Statement}
 
--- the tokens are a program of the grammar that, its items named in the order of the text, resolves to these statements
+-- the tokens are a program of the grammar that resolves to these statements, named in the order of the text
 pub record AreProgram (tokens : List TokenKind) (ss : List Statement) : Type 0 where
   pub tree : Tree
   pub derives : Derives tree tokens
-  pub resolves : resolved (numbered tree) ≡ Some ss
+  pub resolves : resolved tree ≡ Some ss
 
 -- the text is a program of these statements
 pub record IsTextOf (text : List ℕ) (ss : List Statement) : Type 0 where

@@ -1,5 +1,5 @@
 -- Texts as the code keeps them.
-use Rattle.std.specs.Prelude.{ℕ, ◌≤◌, List, length}
+use Rattle.std.specs.Prelude.{◌≡◌, ℕ, ◌≤◌, List, length, Option, Some, None}
 use Rattle.std.specs.List.{AllByRecursion}
 use Rattle.pascal_semantics.specs.declared.form.Statement.{Statement}
 use Rattle.pascal_semantics.specs.Valid.{IsForm, AllDiffer, IsFree, program_name}
@@ -30,3 +30,9 @@ abbrev pub IsReadingOf : Toks → Reading → Type 0
 IsReadingOf tokens TooLong = ⊥
 IsReadingOf tokens NotBuilt = (ss : List Statement) → AreProgram tokens ss → ⊥
 IsReadingOf tokens (Program ss) = AreProgram tokens ss
+
+-- what a tree is by what it resolves to
+abbrev pub IsResolved : Option (List Statement) → Reading → Type 0
+IsResolved r TooLong = ⊥
+IsResolved r NotBuilt = None ≡ r
+IsResolved r (Program ss) = Some ss ≡ r

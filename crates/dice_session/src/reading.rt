@@ -1,14 +1,17 @@
 //! Texts that are to be loaded.
-ghost use Rattle.std.specs.Prelude.{◌≡◌, map, IfOk, IfSome};
-ghost use Rattle.program_tree.specs.Tokens.{Toks};
+ghost use Rattle.std.specs.Prelude.{◌≡◌, ◌<◌, ◌↔◌, ℕ, List, length, IfOk};
+ghost use Rattle.pascal_scanner.specs.Unread.{Reports};
+ghost use Rattle.pascal_scanner.specs.declared.fault.ScanFault.TheVariants.{TextTooLong};
 ghost use Rattle.pascal_parser.specs.Whole.{kinds};
+ghost use Rattle.simple_form.specs.Simple.{resolved};
 ghost use Rattle.dice_session.specs.Reading.{IsReading};
-ghost use Rattle.dice_session.specs.Readings.{reading_of, IsNamed, IsReadingOf};
+ghost use Rattle.dice_session.specs.Readings.{reading_of, IsNamed, IsReadingOf, IsResolved};
 
 use dice_base::{NoMemory, Token};
 use pascal_parser::{ParseFault, parse_program};
 use pascal_scanner::{ScanFault, scan};
 use pascal_semantics::Statement;
+use program_tree::Program;
 use simple_form::resolve_program;
 use std::alloc::Global;
 
@@ -30,9 +33,22 @@ pub(crate) fn read_program(alloc: Global, text: &[u8]) -> Result<Found, NoMemory
 {
     match scan(alloc, text) {
         Ok(tokens) => read_tokens(alloc, &tokens),
-        Err(ScanFault::TextTooLong) => Ok(Found::TooLong),
-        Err(ScanFault::NoMemory) => Err(NoMemory),
-        Err(_) => Ok(Found::NotBuilt),
+        Err(fault) => without_tokens(fault),
+    }
+}
+
+// What a text turns out to be that has no tokens.
+fn without_tokens(fault: ScanFault) -> Result<Found, NoMemory>
+    ensures reading { (text : List ℕ) → (fault ≡ TextTooLong ↔ (65536 < length text)) → Reports fault text → IfOk result (λ found. IsReading text (reading_of found)) }
+    ensures named { IfOk result (λ found. IsNamed (reading_of found)) }
+{
+    match fault {
+        ScanFault::TextTooLong => Ok(Found::TooLong),
+        ScanFault::NoMemory => Err(NoMemory),
+        ScanFault::BadCharacter(_) => Ok(Found::NotBuilt),
+        ScanFault::OpenComment(_) => Ok(Found::NotBuilt),
+        ScanFault::OpenString(_) => Ok(Found::NotBuilt),
+        ScanFault::NumberTooLarge(_) => Ok(Found::NotBuilt),
     }
 }
 
@@ -42,11 +58,19 @@ fn read_tokens(alloc: Global, tokens: &[Token]) -> Result<Found, NoMemory>
     ensures named { IfOk result (λ found. IsNamed (reading_of found)) }
 {
     match parse_program(alloc, tokens) {
-        Ok(program) => Ok(match resolve_program(alloc, &program)? {
-            Some(simple) => Found::Program(simple.statements),
-            None => Found::NotBuilt,
-        }),
+        Ok(tree) => resolve(alloc, &tree),
         Err(ParseFault::NoReading) => Ok(Found::NotBuilt),
         Err(ParseFault::NoMemory) => Err(NoMemory),
+    }
+}
+
+// What a tree turns out to be.
+fn resolve(alloc: Global, tree: &Program) -> Result<Found, NoMemory>
+    ensures reading { IfOk result (λ found. IsResolved (resolved tree.now) (reading_of found)) }
+    ensures named { IfOk result (λ found. IsNamed (reading_of found)) }
+{
+    match resolve_program(alloc, tree)? {
+        Some(program) => Ok(Found::Program(program.statements)),
+        None => Ok(Found::NotBuilt),
     }
 }

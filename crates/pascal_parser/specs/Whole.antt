@@ -3,8 +3,6 @@ use Rattle.std.specs.Prelude.{◌≡◌, List, [], map, Result, Ok, Err}
 use Rattle.dice_base.specs.declared.token.Token.{Token}
 use Rattle.program_tree.specs.declared.program.Program.{Program}
 use Rattle.program_tree.specs.Tokens.{Toks}
-use Rattle.program_tree.specs.Programs.{Derives}
-use Rattle.tree_names.specs.Naming.{numbered}
 use Rattle.grammar_laws.specs.declared.stop.Stop.{Stop}
 use Rattle.grammar_laws.specs.declared.stop.Stop.TheVariants.{Memory, At, Deep}
 use Rattle.grammar_laws.specs.Parsers.{Outcome}
@@ -13,10 +11,6 @@ use Rattle.pascal_parser.specs.declared.fault.ParseFault.TheVariants.{NoReading,
 
 abbrev pub kinds : List Token → Toks
 kinds tokens = map (λ t. t.kind) tokens
-
--- the program, its items named in the order of the text, is a tree that derives the tokens
-abbrev pub IsReadingOf : Program → Toks → Type 0
-IsReadingOf p ts = (tree : Program) × Derives tree ts × (p ≡ numbered tree)
 
 -- this program, unless memory ran out
 abbrev pub IsUnlessMemory : Result Program ParseFault → Program → Type 0
@@ -30,3 +24,9 @@ ReadsAll outcome (Ok p) = outcome ≡ Ok (p, [])
 ReadsAll outcome (Err Memory) = Unit {0}
 ReadsAll outcome (Err (At left)) = (p : Program) → outcome ≡ Ok (p, []) → ⊥
 ReadsAll outcome (Err (Deep left)) = (p : Program) → outcome ≡ Ok (p, []) → ⊥
+
+-- why tokens are not read, as the caller sees it
+abbrev pub fault_of : Stop → ParseFault
+fault_of Memory = NoMemory
+fault_of (At left) = NoReading
+fault_of (Deep left) = NoReading

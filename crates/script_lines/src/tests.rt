@@ -28,11 +28,20 @@ fn no_room_for_a_byte(rt: HostRuntime) -> Result<(), Fail> {
     let mut line = Vec::new(rt.alloc());
     let mut source = MemSource::new(rt.alloc(), b"ab\nc", 3, &[])?;
     let mut room = 3;
-    assert_eq!(rt; next_line(&mut source, &mut line, &mut room), Ok(Got::Whole));
-    assert_eq!(rt; next_line(&mut source, &mut line, &mut room), Ok(Got::TooFar));
+    assert_eq!(rt;
+        next_line(&mut source, &mut line, &mut room),
+        Ok(Got::Whole)
+    );
+    assert_eq!(rt;
+        next_line(&mut source, &mut line, &mut room),
+        Ok(Got::TooFar)
+    );
     let mut source = MemSource::new(rt.alloc(), b"ab\n", 3, &[])?;
     let mut room = 3;
-    assert_eq!(rt; next_line(&mut source, &mut line, &mut room), Ok(Got::Whole));
+    assert_eq!(rt;
+        next_line(&mut source, &mut line, &mut room),
+        Ok(Got::Whole)
+    );
     assert_eq!(rt; next_line(&mut source, &mut line, &mut room), Ok(Got::Last));
     Ok(())
 }

@@ -1,6 +1,6 @@
 -- Simple programs, and what their identifiers stand for (ISO 7185:1990, 6.2.2 scopes, 6.5.1 variables, 6.8.2.2
 -- assignment, 6.9.4 writeln). What is not simple has no answer.
-use Rattle.std.specs.Prelude.{ℕ, Bool, true, false, ◌&&◌, not, nat_le, nat_lt, if◌then◌else◌, List, [], ◌∷◌, ◌++◌, length, Option, Some, None, is_some, codes, bytes_eq, map}
+use Rattle.std.specs.Prelude.{◌≡◌, ℕ, ◌+◌, Bool, true, false, ◌&&◌, not, nat_le, if◌then◌else◌, List, [], ◌∷◌, ◌++◌, length, Option, Some, None, is_some, codes, bytes_eq, map}
 use Rattle.dice_base.specs.Lexemes.{place_of}
 use Rattle.program_tree.specs.declared.expr.Prefix.{Prefix}
 use Rattle.program_tree.specs.declared.expr.Prefix.TheVariants.{Without}
@@ -148,6 +148,10 @@ call_of vars x args = if bytes_eq x (codes "writeln") then one_argument vars arg
 abbrev pub Leaves : Type 0
 Leaves = Option (List Statement)
 
+-- the same, where names are given from a number on, and the number behind them
+abbrev pub Naming : Type 0
+Naming = ℕ → Leaves × ℕ
+
 abbrev pub leaf : ℕ → Option SimpleForm → Leaves
 leaf n None = None
 leaf n (Some f) = Some (record { name = n; form = f } ∷ [])
@@ -157,35 +161,37 @@ both None r = None
 both (Some xs) None = None
 both (Some xs) (Some ys) = Some (xs ++ ys)
 
-abbrev pub joined : List Leaves → Leaves
-joined [] = Some []
-joined (r ∷ rs) = both r (joined rs)
+-- one after another
+abbrev pub in_turn : List Naming → Naming
+in_turn [] n = (Some [], n)
+in_turn (f ∷ fs) n = (both (f n).0 (in_turn fs (f n).1).0, (in_turn fs (f n).1).1)
 
-abbrev pub in_kind : Texts → StmtKind-F (ℕ → Leaves) Leaves Leaves → ℕ → Leaves
-in_kind vars StmtKind-F.Empty n = leaf n (Some form.Empty)
-in_kind vars (StmtKind-F.Assign a e) n = leaf n (assignment_of vars a e)
-in_kind vars (StmtKind-F.Call x args) n = leaf n (call_of vars x args)
-in_kind vars (StmtKind-F.Compound rs) n = joined rs
-in_kind vars _ n = None
+-- a statement has its name before those that it contains
+abbrev pub in_kind : Texts → StmtKind-F Naming Naming Naming → Naming
+in_kind vars StmtKind-F.Empty n = (leaf n (Some form.Empty), n + 1)
+in_kind vars (StmtKind-F.Assign a e) n = (leaf n (assignment_of vars a e), n + 1)
+in_kind vars (StmtKind-F.Call x args) n = (leaf n (call_of vars x args), n + 1)
+in_kind vars (StmtKind-F.Compound fs) n = in_turn fs (n + 1)
+in_kind vars _ n = (None, n + 1)
 
-abbrev pub in_arm : Arm-F (ℕ → Leaves) Leaves Leaves → Leaves
-in_arm a = None
+abbrev pub in_arm : Arm-F Naming Naming Naming → Naming
+in_arm a n = (None, n)
 
-abbrev pub unlabelled : Option ℕ → Leaves → Leaves
+abbrev pub unlabelled : Option ℕ → Leaves × ℕ → Leaves × ℕ
 unlabelled None r = r
-unlabelled (Some label) r = None
+unlabelled (Some label) r = (None, r.1)
 
-abbrev pub in_stmt : Stmt-F (ℕ → Leaves) Leaves Leaves → Leaves
-in_stmt s = unlabelled s.label (s.kind s.name.0)
+abbrev pub in_stmt : Stmt-F Naming Naming Naming → Naming
+in_stmt s n = unlabelled s.label (s.kind n)
 
-unfoldable pub kind_of : Texts → StmtKind → ℕ → Leaves
-kind_of vars = fold-StmtKind (ℕ → Leaves) Leaves Leaves (in_kind vars) in_arm in_stmt
+unfoldable pub kind_of : Texts → StmtKind → Naming
+kind_of vars = fold-StmtKind Naming Naming Naming (in_kind vars) in_arm in_stmt
 
-unfoldable pub stmt_of : Texts → Stmt → Leaves
-stmt_of vars = fold-Stmt (ℕ → Leaves) Leaves Leaves (in_kind vars) in_arm in_stmt
+unfoldable pub stmt_of : Texts → Stmt → Naming
+stmt_of vars = fold-Stmt Naming Naming Naming (in_kind vars) in_arm in_stmt
 
-abbrev pub stmts_of : Texts → List Stmt → Leaves
-stmts_of vars ss = joined (map (stmt_of vars) ss)
+abbrev pub stmts_of : Texts → List Stmt → Naming
+stmts_of vars ss = in_turn (map (stmt_of vars) ss)
 
 -- ---- programs
 
@@ -204,17 +210,12 @@ abbrev pub is_integer : TypeText-F TypeText FieldText → Bool
 is_integer (TypeText-F.Named x) = bytes_eq x (codes "integer")
 is_integer _ = false
 
--- names rise in the order of the text, as the parser gives them
-abbrev pub rises : ℕ → List Statement → Bool
-rises n [] = true
-rises n (s ∷ ss) = nat_lt n s.name && rises s.name ss
-
-abbrev pub named_well : Leaves → Leaves
-named_well None = None
-named_well (Some ss) = if rises 1 ss then Some ss else None
+-- the program is 1, its variables are 2, and its body is 3
+abbrev pub body_name : ℕ
+body_name = 3
 
 abbrev pub by_decl : DeclKind → Stmt → Leaves
-by_decl (VarDecl xs t) body = if is_integer (out-TypeText t) && are_variables xs then named_well (stmt_of xs body) else None
+by_decl (VarDecl xs t) body = if is_integer (out-TypeText t) && are_variables xs then (stmt_of xs body body_name).0 else None
 by_decl _ body = None
 
 abbrev pub by_vars : List Decl → Stmt → Leaves
@@ -231,7 +232,7 @@ abbrev pub has_variables_alone : Block → Bool
 has_variables_alone b =
     not (is_some (out-Block b).labels) && is_nil (out-Block b).consts && is_nil (out-Block b).types && is_nil (out-Block b).routines
 
--- the program's statements, resolved
+-- the program's statements, resolved, and named in the order of the text
 abbrev pub resolved : Program → Leaves
 resolved p = if is_nil p.files && has_variables_alone p.block then by_vars (out-Block p.block).vars (out-Block p.block).body else None
 
@@ -245,6 +246,11 @@ prepended xs (Some ys) = Some (xs ++ ys)
 abbrev pub answered : Bool → List Statement → Leaves
 answered true xs = Some xs
 answered false xs = None
+
+-- statements were added behind others, by the names up to this number; or some statement is not simple
+abbrev pub IsAdded : Bool → Leaves × ℕ → List Statement → List Statement → ℕ → Type 0
+IsAdded true r old new next = (prepended old r.0 ≡ Some new) × (next ≡ r.1)
+IsAdded false r old new next = r.0 ≡ None
 
 abbrev pub statements_in : Option SimpleProgram → Leaves
 statements_in None = None

@@ -4,7 +4,7 @@ ghost use Rattle.std.specs.List.{AllByRecursion};
 ghost use Rattle.simple_form.specs.Simple as spec;
 ghost use Rattle.program_tree.specs.declared.typing.TypeText.{out-TypeText};
 ghost use Rattle.program_tree.specs.declared.decl.Block.{out-Block};
-ghost use Rattle.simple_form.specs.Simple.{named_well, stmt_of, resolved, statements_in};
+ghost use Rattle.simple_form.specs.Simple.{stmt_of, resolved, body_name, statements_in};
 ghost use Rattle.pascal_semantics.specs.Valid.{IsForm, IsFree, AllDiffer};
 
 use crate::operands::number_of;
@@ -15,6 +15,9 @@ use program_tree::{Block, DeclKind, Program, Stmt, TypeText};
 use std::alloc::Global;
 
 const MAX_VARIABLES: usize = 64;
+
+/// The name of a program's body: the program is 1, and its variables are 2.
+const BODY: u32 = 3;
 
 /// The statements of a simple program that have a block, in the order of the text. A variable's number is its place
 /// among the variables, counted from 0.
@@ -58,20 +61,6 @@ fn is_integer(shape: &TypeText) -> bool
     }
 }
 
-fn rises(statements: &[Statement]) -> bool
-    ensures value { result ≡ spec.rises 1 statements.now }
-    ensures few { result ≡ true → length statements.now ≤ 4294967296 }
-{
-    let mut last = 1;
-    for statement in statements {
-        if statement.name <= last {
-            return false;
-        }
-        last = statement.name;
-    }
-    true
-}
-
 fn has_variables_alone(block: &Block) -> bool
     ensures { result ≡ spec.has_variables_alone block.now }
 {
@@ -81,21 +70,21 @@ fn has_variables_alone(block: &Block) -> bool
         && block.routines.is_empty()
 }
 
-#[tactic(auto, using(crate::proofs::Names::rising_differ, crate::proofs::Names::rising_free))]
 fn resolve_body(
     alloc: Global,
     variables: &[Text],
     body: &Stmt,
 ) -> Result<Option<SimpleProgram>, NoMemory>
     requires { length variables.now ≤ 64 }
-    ensures value { IfOk result (λ r. statements_in r ≡ named_well (stmt_of variables.now body.now)) }
+    ensures value { IfOk result (λ r. statements_in r ≡ (stmt_of variables.now body.now body_name).0) }
     ensures forms { IfOk result (λ r. IfSome r (λ p. AllByRecursion (λ s. IsForm s.form) p.statements.items)) }
     ensures differ { IfOk result (λ r. IfSome r (λ p. AllDiffer p.statements.items)) }
     ensures free { IfOk result (λ r. IfSome r (λ p. IsFree 1 p.statements.items)) }
     ensures few { IfOk result (λ r. IfSome r (λ p. length p.statements.items ≤ 4294967296)) }
 {
     let mut statements = Vec::new(alloc);
-    if push_stmt(variables, body, &mut statements)? && rises(statements.as_slice()) {
+    let mut next = BODY;
+    if push_stmt(variables, body, &mut next, &mut statements)? {
         return Ok(Some(SimpleProgram { statements }));
     }
     Ok(None)

@@ -1,8 +1,9 @@
 //! Statements.
-ghost use Rattle.std.specs.Prelude.{◌≡◌, ◌≤◌, ◌∷◌, [], length, Some, IfOk, IfSome};
+ghost use Rattle.std.specs.Prelude.{◌≡◌, ◌≤◌, ◌+◌, ◌∷◌, [], length, Some, IfOk, IfSome};
 ghost use Rattle.std.specs.List.{AllByRecursion};
 ghost use Rattle.simple_form.specs.Simple as spec;
-ghost use Rattle.simple_form.specs.Simple.{prepended, answered};
+ghost use Rattle.simple_form.specs.Simple.{IsAdded};
+ghost use Rattle.simple_form.specs.Names.{AreNamed};
 ghost use Rattle.pascal_semantics.specs.Valid.{IsForm, IsWidth};
 
 use crate::operands::{sum, variable};
@@ -82,18 +83,31 @@ fn call(variables: &[Text], ident: &Text, args: &[Arg]) -> Option<SimpleForm>
     }
 }
 
+// The name behind this one.
+fn after(name: u32) -> Result<u32, NoMemory>
+    ensures next { IfOk result (λ next. next ≡ name + 1) }
+    ensures small { IfOk result (λ next. next ≤ 4294967295) }
+{
+    match name.checked_add(1) {
+        Some(next) => Ok(next),
+        None => Err(NoMemory),
+    }
+}
+
 fn push_leaf(
     form: Option<SimpleForm>,
-    name: u32,
+    next: &mut u32,
     out: &mut Vec<Statement>,
 ) -> Result<bool, NoMemory>
     requires { IfSome form IsForm }
-    ensures value { IfOk result (λ is. prepended out.old.items (spec.leaf name form) ≡ answered is out.new.items) }
+    ensures value { IfOk result (λ is. IsAdded is (spec.leaf next.old form, next.old + 1) out.old.items out.new.items next.new) }
     ensures within { IfOk result (λ _. AllByRecursion (λ s. IsForm s.form) out.old.items → AllByRecursion (λ s. IsForm s.form) out.new.items) }
+    ensures named { IfOk result (λ _. AreNamed out.old.items next.old → AreNamed out.new.items next.new) }
 {
     match form {
         Some(form) => {
-            out.push(Statement { name, form })?;
+            out.push(Statement { name: *next, form })?;
+            *next = after(*next)?;
             Ok(true)
         }
         None => Ok(false),
@@ -105,59 +119,67 @@ fn push_leaf(
 fn push_kind(
     variables: &[Text],
     kind: &StmtKind,
-    name: u32,
+    next: &mut u32,
     out: &mut Vec<Statement>,
 ) -> Result<bool, NoMemory>
     requires { length variables.now ≤ 64 }
-    ensures value { IfOk result (λ is. prepended out.old.items (spec.kind_of variables.now kind.now name) ≡ answered is out.new.items) }
+    ensures value { IfOk result (λ is. IsAdded is (spec.kind_of variables.now kind.now next.old) out.old.items out.new.items next.new) }
     ensures within { IfOk result (λ _. AllByRecursion (λ s. IsForm s.form) out.old.items → AllByRecursion (λ s. IsForm s.form) out.new.items) }
+    ensures named { IfOk result (λ _. AreNamed out.old.items next.old → AreNamed out.new.items next.new) }
 {
     match kind {
-        StmtKind::Empty => push_leaf(Some(SimpleForm::Empty), name, out),
+        StmtKind::Empty => push_leaf(Some(SimpleForm::Empty), next, out),
         StmtKind::Assign(access, value) => {
-            push_leaf(assignment(variables, access, value), name, out)
+            push_leaf(assignment(variables, access, value), next, out)
         }
         StmtKind::Call(ident, args) => push_leaf(
             call(variables, ident, args.as_slice()),
-            name,
+            next,
             out,
         ),
-        StmtKind::Compound(stmts) => push_stmts(variables, stmts.as_slice(), out),
+        StmtKind::Compound(stmts) => {
+            *next = after(*next)?;
+            push_stmts(variables, stmts.as_slice(), next, out)
+        }
         _ => Ok(false),
     }
 }
 
-/// Adds the statements that have a block, in the order of the text, or says that some statement is not simple.
+/// Adds the statements that have a block, in the order of the text, with the names from `next` on, which is then the
+/// next name; or says that some statement is not simple.
 #[cycle(push_stmt)]
 #[tactic(auto, unfolding(crate::specs::Simple::stmt_of, crate::specs::Simple::kind_of))]
 pub fn push_stmt(
     variables: &[Text],
     stmt: &Stmt,
+    next: &mut u32,
     out: &mut Vec<Statement>,
 ) -> Result<bool, NoMemory>
     requires { length variables.now ≤ 64 }
-    ensures value { IfOk result (λ is. prepended out.old.items (spec.stmt_of variables.now stmt.now) ≡ answered is out.new.items) }
+    ensures value { IfOk result (λ is. IsAdded is (spec.stmt_of variables.now stmt.now next.old) out.old.items out.new.items next.new) }
     ensures within { IfOk result (λ _. AllByRecursion (λ s. IsForm s.form) out.old.items → AllByRecursion (λ s. IsForm s.form) out.new.items) }
+    ensures named { IfOk result (λ _. AreNamed out.old.items next.old → AreNamed out.new.items next.new) }
 {
     if stmt.label.is_some() {
         return Ok(false);
     }
-    push_kind(variables, &stmt.kind, stmt.name.0, out)
+    push_kind(variables, &stmt.kind, next, out)
 }
 
 #[cycle(push_stmt)]
-#[tactic(auto, using(crate::proofs::Leaves::push_next, crate::proofs::Leaves::push_stop))]
 fn push_stmts(
     variables: &[Text],
     stmts: &[Stmt],
+    next: &mut u32,
     out: &mut Vec<Statement>,
 ) -> Result<bool, NoMemory>
     requires { length variables.now ≤ 64 }
-    ensures value { IfOk result (λ is. prepended out.old.items (spec.stmts_of variables.now stmts.now) ≡ answered is out.new.items) }
+    ensures value { IfOk result (λ is. IsAdded is (spec.stmts_of variables.now stmts.now next.old) out.old.items out.new.items next.new) }
     ensures within { IfOk result (λ _. AllByRecursion (λ s. IsForm s.form) out.old.items → AllByRecursion (λ s. IsForm s.form) out.new.items) }
+    ensures named { IfOk result (λ _. AreNamed out.old.items next.old → AreNamed out.new.items next.new) }
 {
     for stmt in stmts {
-        if !push_stmt(variables, stmt, out)? {
+        if !push_stmt(variables, stmt, next, out)? {
             return Ok(false);
         }
     }
