@@ -21,7 +21,6 @@ struct Case {
     number: u16,
     call: &'static [u8],
     width: u16,
-    last_name: u32,
     label: Option<u16>,
 }
 
@@ -34,7 +33,6 @@ const SIMPLE: Case = Case {
     number: 7,
     call: b"writeln",
     width: 255,
-    last_name: 7,
     label: None,
 };
 
@@ -96,7 +94,7 @@ fn call(alloc: Global, case: Case) -> Result<Stmt, NoMemory> {
     })?;
     let ident = Text::from_slice(alloc, case.call)?;
     let mut stmts = Items::new(alloc);
-    stmts.push(stmt(case.last_name, None, StmtKind::Call(ident, args)))?;
+    stmts.push(stmt(7, None, StmtKind::Call(ident, args)))?;
     Ok(stmt(6, None, StmtKind::Compound(stmts)))
 }
 
@@ -272,13 +270,6 @@ fn refuses_other_statements(rt: HostRuntime) -> Result<(), Fail> {
             ..SIMPLE
         },
     )?;
-    let same_name = is_simple(
-        rt.alloc(),
-        Case {
-            last_name: 5,
-            ..SIMPLE
-        },
-    )?;
-    assert_eq!(rt; [edge, same_name], [true, false]);
+    assert!(rt; edge);
     Ok(())
 }
