@@ -1,4 +1,4 @@
 pub mod Calls
 pub mod Levels
-pub mod Turns
+pub mod StmtWholes
 pub mod Wholes

@@ -1,3 +1,2 @@
-pub mod Nests
 pub mod NestsStmt
 pub mod Whole

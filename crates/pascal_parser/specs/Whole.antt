@@ -1,8 +1,9 @@
 -- What a reader of all the tokens answers.
 use Rattle.std.specs.Prelude.{◌≡◌, List, [], map, Result, Ok, Err}
 use Rattle.dice_base.specs.declared.token.Token.{Token}
-use Rattle.program_tree.specs.declared.program.Program.{Program}
+use Rattle.program_tree.specs.declared.stmt.Stmt.{Stmt}
 use Rattle.program_tree.specs.Tokens.{Toks}
+use Rattle.program_tree.specs.Statements.{stmt_at}
 use Rattle.grammar_laws.specs.declared.stop.Stop.{Stop}
 use Rattle.grammar_laws.specs.declared.stop.Stop.TheVariants.{Memory, At, Deep}
 use Rattle.grammar_laws.specs.Parsers.{Outcome}
@@ -12,18 +13,22 @@ use Rattle.pascal_parser.specs.declared.fault.ParseFault.TheVariants.{NoReading,
 abbrev pub kinds : List Token → Toks
 kinds tokens = map (λ t. t.kind) tokens
 
--- this program, unless memory ran out
-abbrev pub IsUnlessMemory : Result Program ParseFault → Program → Type 0
-IsUnlessMemory (Ok q) p = q ≡ p
-IsUnlessMemory (Err NoMemory) p = Unit {0}
-IsUnlessMemory (Err NoReading) p = ⊥
+-- the statement, without names and with at most 64 levels, derives the tokens: it is at level 1
+abbrev pub DerivesStmt : Stmt → Toks → Type 0
+DerivesStmt s ts = stmt_at 64 s tt ts
+
+-- this tree, unless memory ran out
+abbrev pub IsUnlessMemory : {A : Type 0} → Result A ParseFault → A → Type 0
+IsUnlessMemory (Ok b) a = b ≡ a
+IsUnlessMemory (Err NoMemory) a = Unit {0}
+IsUnlessMemory (Err NoReading) a = ⊥
 
 -- the tree that is read of all the tokens, or there is none
-abbrev pub ReadsAll : Outcome Program → Result Program Stop → Type 0
-ReadsAll outcome (Ok p) = outcome ≡ Ok (p, [])
+abbrev pub ReadsAll : {A : Type 0} → Outcome A → Result A Stop → Type 0
+ReadsAll outcome (Ok a) = outcome ≡ Ok (a, [])
 ReadsAll outcome (Err Memory) = Unit {0}
-ReadsAll outcome (Err (At left)) = (p : Program) → outcome ≡ Ok (p, []) → ⊥
-ReadsAll outcome (Err (Deep left)) = (p : Program) → outcome ≡ Ok (p, []) → ⊥
+ReadsAll {A} outcome (Err (At left)) = (a : A) → outcome ≡ Ok (a, []) → ⊥
+ReadsAll {A} outcome (Err (Deep left)) = (a : A) → outcome ≡ Ok (a, []) → ⊥
 
 -- why tokens are not read, as the caller sees it
 abbrev pub fault_of : Stop → ParseFault

@@ -5,10 +5,11 @@ ghost use Rattle.grammar_laws.specs.Parsers.{Reads, separated, behind};
 ghost use Rattle.grammar_laws.specs.ProgramReading as spec;
 ghost use Rattle.grammar_laws.specs.StmtReading.{stmt_in};
 
-use crate::classes::{BEGIN, COLON, COMMA, IDENT, PERIOD, PROGRAM, SEMICOLON, VAR};
-use crate::cursor::Cursor;
+use crate::classes::{BEGIN, COLON, PROGRAM, SEMICOLON, VAR};
 use crate::stmts::compound;
 use dice_base::{Name, Text};
+use expression_parser::Cursor;
+use expression_parser::classes::{COMMA, IDENT, PERIOD};
 use grammar_laws::Stop;
 use program_tree::{Block, Decl, DeclKind, Program, Stmt, StmtKind, TypeText};
 use sqlite_items::Items;
@@ -28,7 +29,7 @@ fn next_ident(alloc: Global, tokens: &mut Cursor<'_>) -> Result<Option<Text>, St
     }
 }
 
-#[tactic(auto, using(crate::proofs::Turns::many_step, crate::proofs::Turns::many_stop), unfolding(grammar_laws::specs::Parsers::separated))]
+#[tactic(auto, using(expression_parser::proofs::Turns::many_step, expression_parser::proofs::Turns::many_stop), unfolding(grammar_laws::specs::Parsers::separated))]
 fn idents(alloc: Global, tokens: &mut Cursor<'_>) -> Result<Items<Text>, Stop>
     ensures { Reads (separated 94 parsers.ident tokens.old) result tokens.new }
 {
@@ -68,7 +69,7 @@ fn more_vars(alloc: Global, tokens: &mut Cursor<'_>) -> Result<Option<Decl>, Sto
 }
 
 // Further declarations, behind the first.
-#[tactic(auto, using(crate::proofs::Turns::many_step, crate::proofs::Turns::many_stop))]
+#[tactic(auto, using(expression_parser::proofs::Turns::many_step, expression_parser::proofs::Turns::many_stop))]
 fn var_decls(alloc: Global, tokens: &mut Cursor<'_>) -> Result<Items<Decl>, Stop>
     ensures { Reads (parsers.many spec.more_vars tokens.old) result tokens.new }
 {

@@ -1,63 +1,15 @@
-//! The classes of tokens that the grammar names.
-
-pub const IDENT: u16 = 1;
-
-pub const NUMBER: u16 = 2;
-
-pub const AND: u16 = 0;
+//! The classes of tokens that the grammar of statements and programs names beside those of expressions.
 
 pub const BEGIN: u16 = 12;
 
-pub const DIV: u16 = 30;
-
 pub const END: u16 = 54;
-
-pub const IN: u16 = 90;
-
-pub const MOD: u16 = 102;
-
-pub const NOT: u16 = 114;
-
-pub const OR: u16 = 126;
 
 pub const PROGRAM: u16 = 144;
 
 pub const VAR: u16 = 192;
 
-pub const PLUS: u16 = 4;
-
-pub const MINUS: u16 = 10;
-
-pub const TIMES: u16 = 16;
-
-pub const EQUAL: u16 = 22;
-
-pub const NOT_EQUAL: u16 = 28;
-
-pub const LESS: u16 = 34;
-
-pub const GREATER: u16 = 40;
-
-pub const AT_MOST: u16 = 46;
-
-pub const AT_LEAST: u16 = 52;
-
-pub const OPEN: u16 = 58;
-
-pub const CLOSE: u16 = 64;
-
-pub const LEFT: u16 = 70;
-
-pub const RIGHT: u16 = 76;
-
 pub const BECOMES: u16 = 82;
-
-pub const PERIOD: u16 = 88;
-
-pub const COMMA: u16 = 94;
 
 pub const SEMICOLON: u16 = 100;
 
 pub const COLON: u16 = 106;
-
-pub const ARROW: u16 = 118;

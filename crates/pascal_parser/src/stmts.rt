@@ -5,10 +5,10 @@ ghost use Rattle.grammar_laws.specs.Reading.{inside};
 ghost use Rattle.grammar_laws.specs.StmtReading as spec;
 ghost use Rattle.pascal_parser.specs.NestsStmt.{NestsStmt};
 
-use crate::classes::{BECOMES, BEGIN, CLOSE, COLON, COMMA, END, IDENT, OPEN, SEMICOLON};
-use crate::cursor::Cursor;
-use crate::exprs::{access_parts, expr, inner_expr};
+use crate::classes::{BECOMES, BEGIN, COLON, END, SEMICOLON};
 use dice_base::{Name, Text};
+use expression_parser::classes::{CLOSE, COMMA, IDENT, OPEN};
+use expression_parser::{Cursor, access_parts, expr, inner_expr};
 use grammar_laws::Stop;
 use program_tree::{Access, AccessPart, Arg, Expr, Stmt, StmtKind};
 use sqlite_items::Items;
@@ -50,7 +50,7 @@ fn next_arg(alloc: Global, tokens: &mut Cursor<'_>, depth: usize) -> Result<Opti
     }
 }
 
-#[tactic(auto, using(crate::proofs::Turns::many_step, crate::proofs::Turns::many_stop), unfolding(grammar_laws::specs::Parsers::separated))]
+#[tactic(auto, using(expression_parser::proofs::Turns::many_step, expression_parser::proofs::Turns::many_stop), unfolding(grammar_laws::specs::Parsers::separated))]
 fn arg_list(alloc: Global, tokens: &mut Cursor<'_>, depth: usize) -> Result<Items<Arg>, Stop>
     ensures { Reads (separated 94 (spec.arg (inside depth)) tokens.old) result tokens.new }
 {
@@ -167,7 +167,7 @@ impl<F: Fn(Global, &mut Cursor<'_>, usize) -> Result<Stmt, Stop>> Statements<F> 
         }
     }
 
-    #[tactic(auto, using(crate::proofs::Turns::many_step, crate::proofs::Turns::many_stop), unfolding(grammar_laws::specs::Parsers::separated))]
+    #[tactic(auto, using(expression_parser::proofs::Turns::many_step, expression_parser::proofs::Turns::many_stop), unfolding(grammar_laws::specs::Parsers::separated))]
     fn sequence(&self, tokens: &mut Cursor<'_>, depth: usize) -> Result<Items<Stmt>, Stop>
         requires { NestsStmt depth (F.pre self.now.stmt) (F.post self.now.stmt) }
         ensures { Reads (separated 100 (spec.stmt_in depth) tokens.old) result tokens.new }
@@ -227,6 +227,17 @@ pub fn stmt(alloc: Global, tokens: &mut Cursor<'_>, depth: usize) -> Result<Stmt
     ensures { Reads (spec.statement (inside depth) (spec.stmt_in depth) tokens.old) result tokens.new }
 {
     Statements { alloc, stmt }.whole(tokens, depth)
+}
+
+/// A statement of at most this many levels.
+#[tactic(auto, using(crate::proofs::Levels::stmt_none, crate::proofs::Levels::stmt_some))]
+pub fn stmt_within(alloc: Global, tokens: &mut Cursor<'_>, levels: usize) -> Result<Stmt, Stop>
+    ensures { Reads (spec.stmt_in levels tokens.old) result tokens.new }
+{
+    if levels == 0 {
+        return Err(tokens.too_deep());
+    }
+    stmt(alloc, tokens, levels - 1)
 }
 
 /// What stands behind `begin`, up to its `end`, with statements in which this many levels may nest.

@@ -1,4 +1,4 @@
-//! Programs that are read, and at the edge of that.
+//! Programs and statements that are read, and at the edge of that.
 use super::*;
 use dice_base::{NoMemory, Text, push_decimal};
 use pascal_scanner::scan;
@@ -175,5 +175,66 @@ fn reads_trees_without_names(rt: HostRuntime) -> Result<(), Fail> {
     assert!(rt; text.bytes() == b"0 0 0(0a0(0a0e)0c)0".as_slice());
     let none = names(rt.alloc(), b"program p; begin end.")?;
     assert!(rt; none.bytes() == b"0(0e)0".as_slice());
+    Ok(())
+}
+
+// The statement, or that there is none.
+fn parsed_statement(alloc: Global, text: &[u8]) -> Result<Option<Stmt>, NoMemory> {
+    let Ok(tokens) = scan(alloc, text) else {
+        return Ok(None);
+    };
+    match parse_statement(alloc, tokens.as_slice()) {
+        Ok(stmt) => Ok(Some(stmt)),
+        Err(ParseFault::NoReading) => Ok(None),
+        Err(ParseFault::NoMemory) => Err(NoMemory),
+    }
+}
+
+fn described(alloc: Global, text: &[u8]) -> Result<Text, NoMemory> {
+    let mut out = Text::new(alloc);
+    if let Some(stmt) = parsed_statement(alloc, text)? {
+        describe(alloc, &stmt, &mut out)?;
+    }
+    Ok(out)
+}
+
+// Each with what it is, and nothing where there is no reading.
+const STATEMENTS: [(&str, &str); 7] = [
+    ("s := i + 1", "0a"),
+    ("", "0e"),
+    ("writeln(s)", "0c"),
+    ("begin s := 1 ; end", "0(0a0e)"),
+    ("s := 1 ; i := 2", ""),
+    ("s := 1 ;", ""),
+    ("begin s := 1", ""),
+];
+
+#[test]
+fn reads_statements(rt: HostRuntime) -> Result<(), Fail> {
+    for (text, want) in &STATEMENTS {
+        let found = described(rt.alloc(), text.as_bytes())?;
+        assert!(rt; found.bytes() == want.as_bytes(), "{text}");
+    }
+    Ok(())
+}
+
+fn is_nest_read(alloc: Global, count: u32) -> Result<bool, NoMemory> {
+    let mut text = Text::new(alloc);
+    for _turn in 0..count {
+        text.append(alloc, b"begin ")?;
+    }
+    for _turn in 0..count {
+        text.append(alloc, b" end")?;
+    }
+    let stmt = parsed_statement(alloc, text.bytes())?;
+    Ok(stmt.is_some())
+}
+
+// The empty statement in the innermost compound is one level more.
+#[test]
+fn counts_levels_of_a_statement(rt: HostRuntime) -> Result<(), Fail> {
+    let edge = is_nest_read(rt.alloc(), 63)?;
+    let over = is_nest_read(rt.alloc(), 64)?;
+    assert_eq!(rt; [edge, over], [true, false]);
     Ok(())
 }

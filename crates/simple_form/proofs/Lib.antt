@@ -1,1 +1,3 @@
-pub mod Leaves
+pub mod Sublists
+pub mod Kept
+pub mod Apart

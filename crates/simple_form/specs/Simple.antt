@@ -1,6 +1,6 @@
 -- Simple programs, and what their identifiers stand for (ISO 7185:1990, 6.2.2 scopes, 6.5.1 variables, 6.8.2.2
 -- assignment, 6.9.4 writeln). What is not simple has no answer.
-use Rattle.std.specs.Prelude.{◌≡◌, ℕ, ◌+◌, Bool, true, false, ◌&&◌, not, nat_le, if◌then◌else◌, List, [], ◌∷◌, ◌++◌, length, Option, Some, None, is_some, codes, bytes_eq, map}
+use Rattle.std.specs.Prelude.{◌≡◌, ℕ, Bool, true, false, ◌&&◌, not, nat_le, if◌then◌else◌, List, [], ◌∷◌, ◌++◌, length, Option, Some, None, is_some, unwrap_or, codes, bytes_eq, map}
 use Rattle.dice_base.specs.Lexemes.{place_of}
 use Rattle.program_tree.specs.declared.expr.Prefix.{Prefix}
 use Rattle.program_tree.specs.declared.expr.Prefix.TheVariants.{Without}
@@ -26,7 +26,7 @@ use Rattle.program_tree.specs.declared.decl.Decl.{Decl}
 use Rattle.program_tree.specs.declared.decl.DeclKind.{DeclKind}
 use Rattle.program_tree.specs.declared.decl.DeclKind.TheVariants.{VarDecl}
 use Rattle.program_tree.specs.declared.decl.Block.{Block, out-Block}
-use Rattle.program_tree.specs.declared.program.Program.{Program}
+use Rattle.program_tree.specs.declared.program.Program.{Program as Tree}
 use Rattle.pascal_semantics.specs.declared.form.Operand.{Operand}
 use Rattle.pascal_semantics.specs.declared.form.Operand.TheVariants.{Global, Number}
 use Rattle.pascal_semantics.specs.declared.form.Sum.{Sum}
@@ -148,13 +148,9 @@ call_of vars x args = if bytes_eq x (codes "writeln") then one_argument vars arg
 abbrev pub Leaves : Type 0
 Leaves = Option (List Statement)
 
--- the same, where names are given from a number on, and the number behind them
-abbrev pub Naming : Type 0
-Naming = ℕ → Leaves × ℕ
-
 abbrev pub leaf : ℕ → Option SimpleForm → Leaves
-leaf n None = None
-leaf n (Some f) = Some (record { name = n; form = f } ∷ [])
+leaf name None = None
+leaf name (Some f) = Some (record { name = name; form = f } ∷ [])
 
 abbrev pub both : Leaves → Leaves → Leaves
 both None r = None
@@ -162,36 +158,40 @@ both (Some xs) None = None
 both (Some xs) (Some ys) = Some (xs ++ ys)
 
 -- one after another
-abbrev pub in_turn : List Naming → Naming
-in_turn [] n = (Some [], n)
-in_turn (f ∷ fs) n = (both (f n).0 (in_turn fs (f n).1).0, (in_turn fs (f n).1).1)
+abbrev pub in_turn : List Leaves → Leaves
+in_turn [] = Some []
+in_turn (r ∷ rs) = both r (in_turn rs)
 
--- a statement has its name before those that it contains
-abbrev pub in_kind : Texts → StmtKind-F Naming Naming Naming → Naming
-in_kind vars StmtKind-F.Empty n = (leaf n (Some form.Empty), n + 1)
-in_kind vars (StmtKind-F.Assign a e) n = (leaf n (assignment_of vars a e), n + 1)
-in_kind vars (StmtKind-F.Call x args) n = (leaf n (call_of vars x args), n + 1)
-in_kind vars (StmtKind-F.Compound fs) n = in_turn fs (n + 1)
-in_kind vars _ n = (None, n + 1)
+-- a kind of statement under the name of its statement
+abbrev pub in_kind : Texts → StmtKind-F (ℕ → Leaves) Leaves Leaves → ℕ → Leaves
+in_kind vars StmtKind-F.Empty name = leaf name (Some form.Empty)
+in_kind vars (StmtKind-F.Assign a e) name = leaf name (assignment_of vars a e)
+in_kind vars (StmtKind-F.Call x args) name = leaf name (call_of vars x args)
+in_kind vars (StmtKind-F.Compound stmts) name = in_turn stmts
+in_kind vars _ name = None
 
-abbrev pub in_arm : Arm-F Naming Naming Naming → Naming
-in_arm a n = (None, n)
+abbrev pub in_arm : Arm-F (ℕ → Leaves) Leaves Leaves → Leaves
+in_arm a = None
 
-abbrev pub unlabelled : Option ℕ → Leaves × ℕ → Leaves × ℕ
+abbrev pub unlabelled : Option ℕ → Leaves → Leaves
 unlabelled None r = r
-unlabelled (Some label) r = (None, r.1)
+unlabelled (Some label) r = None
 
-abbrev pub in_stmt : Stmt-F Naming Naming Naming → Naming
-in_stmt s n = unlabelled s.label (s.kind n)
+abbrev pub in_stmt : Stmt-F (ℕ → Leaves) Leaves Leaves → Leaves
+in_stmt s = unlabelled s.label (s.kind s.name.0)
 
-unfoldable pub kind_of : Texts → StmtKind → Naming
-kind_of vars = fold-StmtKind Naming Naming Naming (in_kind vars) in_arm in_stmt
+unfoldable pub kind_of : Texts → StmtKind → ℕ → Leaves
+kind_of vars = fold-StmtKind (ℕ → Leaves) Leaves Leaves (in_kind vars) in_arm in_stmt
 
-unfoldable pub stmt_of : Texts → Stmt → Naming
-stmt_of vars = fold-Stmt Naming Naming Naming (in_kind vars) in_arm in_stmt
+unfoldable pub stmt_of : Texts → Stmt → Leaves
+stmt_of vars = fold-Stmt (ℕ → Leaves) Leaves Leaves (in_kind vars) in_arm in_stmt
 
-abbrev pub stmts_of : Texts → List Stmt → Naming
+abbrev pub stmts_of : Texts → List Stmt → Leaves
 stmts_of vars ss = in_turn (map (stmt_of vars) ss)
+
+-- the statement is of the forms that are built
+abbrev pub is_built : Texts → Stmt → Bool
+is_built vars s = is_some (stmt_of vars s)
 
 -- ---- programs
 
@@ -210,18 +210,15 @@ abbrev pub is_integer : TypeText-F TypeText FieldText → Bool
 is_integer (TypeText-F.Named x) = bytes_eq x (codes "integer")
 is_integer _ = false
 
--- the program is 1, its variables are 2, and its body is 3
-abbrev pub body_name : ℕ
-body_name = 3
+abbrev pub variables_declared : DeclKind → Option Texts
+variables_declared (VarDecl xs t) = if is_integer (out-TypeText t) && are_variables xs then Some xs else None
+variables_declared _ = None
 
-abbrev pub by_decl : DeclKind → Stmt → Leaves
-by_decl (VarDecl xs t) body = if is_integer (out-TypeText t) && are_variables xs then (stmt_of xs body body_name).0 else None
-by_decl _ body = None
-
-abbrev pub by_vars : List Decl → Stmt → Leaves
-by_vars [] body = None
-by_vars (d ∷ []) body = by_decl d.kind body
-by_vars (d ∷ e ∷ ds) body = None
+-- those of the one declaration
+abbrev pub one_declaration : List Decl → Option Texts
+one_declaration [] = None
+one_declaration (d ∷ []) = variables_declared d.kind
+one_declaration (d ∷ e ∷ ds) = None
 
 abbrev pub is_nil : {A : Type 0} → List A → Bool
 is_nil [] = true
@@ -232,9 +229,25 @@ abbrev pub has_variables_alone : Block → Bool
 has_variables_alone b =
     not (is_some (out-Block b).labels) && is_nil (out-Block b).consts && is_nil (out-Block b).types && is_nil (out-Block b).routines
 
--- the program's statements, resolved, and named in the order of the text
-abbrev pub resolved : Program → Leaves
-resolved p = if is_nil p.files && has_variables_alone p.block then by_vars (out-Block p.block).vars (out-Block p.block).body else None
+-- the variables of a program that declares integer variables alone
+abbrev pub declared_variables : Tree → Option Texts
+declared_variables p = if is_nil p.files && has_variables_alone p.block then one_declaration (out-Block p.block).vars else None
+
+abbrev pub resolved_over : Option Texts → Stmt → Leaves
+resolved_over None body = None
+resolved_over (Some vars) body = stmt_of vars body
+
+-- the program's statements, resolved, each with the name that it has in the program
+abbrev pub resolved : Tree → Leaves
+resolved p = resolved_over (declared_variables p) (out-Block p.block).body
+
+-- the variables over which a statement is built; a program that declares something else has none, nor has no program
+abbrev pub variables_of : Tree → Texts
+variables_of p = unwrap_or (declared_variables p) []
+
+abbrev pub variables_in : Option Tree → Texts
+variables_in None = []
+variables_in (Some p) = variables_of p
 
 -- ---- the answer of the code
 
@@ -243,14 +256,10 @@ abbrev pub prepended : List Statement → Leaves → Leaves
 prepended xs None = None
 prepended xs (Some ys) = Some (xs ++ ys)
 
-abbrev pub answered : Bool → List Statement → Leaves
-answered true xs = Some xs
-answered false xs = None
-
--- statements were added behind others, by the names up to this number; or some statement is not simple
-abbrev pub IsAdded : Bool → Leaves × ℕ → List Statement → List Statement → ℕ → Type 0
-IsAdded true r old new next = (prepended old r.0 ≡ Some new) × (next ≡ r.1)
-IsAdded false r old new next = r.0 ≡ None
+-- statements were added behind others; or some statement is not simple
+abbrev pub IsAdded : Bool → Leaves → List Statement → List Statement → Type 0
+IsAdded true r old new = prepended old r ≡ Some new
+IsAdded false r old new = r ≡ None
 
 abbrev pub statements_in : Option SimpleProgram → Leaves
 statements_in None = None

@@ -8,7 +8,7 @@ mod operands;
 mod program;
 mod statements;
 
-pub use program::{SimpleProgram, resolve_program};
+pub use program::{SimpleProgram, is_built, resolve_program};
 
 #[cfg(test)]
 mod tests;

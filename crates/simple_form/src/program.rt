@@ -1,26 +1,23 @@
 //! Programs.
-ghost use Rattle.std.specs.Prelude.{◌≡◌, ◌≤◌, true, length, Some, IfOk, IfSome};
+ghost use Rattle.std.specs.Prelude.{◌≡◌, ◌≤◌, true, length, IfOk, IfSome, option_copied};
 ghost use Rattle.std.specs.List.{AllByRecursion};
 ghost use Rattle.simple_form.specs.Simple as spec;
 ghost use Rattle.program_tree.specs.declared.typing.TypeText.{out-TypeText};
-ghost use Rattle.program_tree.specs.declared.decl.Block.{out-Block};
-ghost use Rattle.simple_form.specs.Simple.{stmt_of, resolved, body_name, statements_in};
+ghost use Rattle.simple_form.specs.Simple.{stmt_of, resolved, statements_in};
 ghost use Rattle.pascal_semantics.specs.Valid.{IsForm, IsFree, AllDiffer};
 
 use crate::operands::number_of;
 use crate::statements::push_stmt;
 use dice_base::{NoMemory, Text};
+use named_program::Program;
 use pascal_semantics::Statement;
-use program_tree::{Block, DeclKind, Program, Stmt, TypeText};
+use program_tree::{Block, Decl, DeclKind, Program as Tree, Stmt, TypeText};
 use std::alloc::Global;
 
 const MAX_VARIABLES: usize = 64;
 
-/// The name of a program's body: the program is 1, and its variables are 2.
-const BODY: u32 = 3;
-
-/// The statements of a simple program that have a block, in the order of the text. A variable's number is its place
-/// among the variables, counted from 0.
+/// The statements of a simple program that have a block, in the order of the text, each with its name in the program.
+/// A variable's number is its place among the variables, counted from 0.
 #[derive(Debug, Drop)]
 pub struct SimpleProgram {
     pub statements: Vec<Statement>,
@@ -70,43 +67,63 @@ fn has_variables_alone(block: &Block) -> bool
         && block.routines.is_empty()
 }
 
+fn variables_declared(kind: &DeclKind) -> Option<&[Text]>
+    ensures value { option_copied result ≡ spec.variables_declared kind.now }
+    ensures few { IfSome result (λ idents. length idents.now ≤ 64) }
+{
+    let DeclKind::VarDecl(idents, shape) = kind else {
+        return None;
+    };
+    if !is_integer(shape) || !are_variables(idents.as_slice()) {
+        return None;
+    }
+    Some(idents.as_slice())
+}
+
+fn one_declaration(decls: &[Decl]) -> Option<&[Text]>
+    ensures value { option_copied result ≡ spec.one_declaration decls.now }
+    ensures few { IfSome result (λ idents. length idents.now ≤ 64) }
+{
+    match decls {
+        [decl] => variables_declared(&decl.kind),
+        _ => None,
+    }
+}
+
+fn declared_variables(tree: &Tree) -> Option<&[Text]>
+    ensures value { option_copied result ≡ spec.declared_variables tree.now }
+    ensures few { IfSome result (λ idents. length idents.now ≤ 64) }
+{
+    if !tree.files.is_empty() || !has_variables_alone(&tree.block) {
+        return None;
+    }
+    one_declaration(tree.block.vars.as_slice())
+}
+
 fn resolve_body(
     alloc: Global,
     variables: &[Text],
     body: &Stmt,
 ) -> Result<Option<SimpleProgram>, NoMemory>
     requires { length variables.now ≤ 64 }
-    ensures value { IfOk result (λ r. statements_in r ≡ (stmt_of variables.now body.now body_name).0) }
+    ensures value { IfOk result (λ r. statements_in r ≡ stmt_of variables.now body.now) }
     ensures forms { IfOk result (λ r. IfSome r (λ p. AllByRecursion (λ s. IsForm s.form) p.statements.items)) }
-    ensures differ { IfOk result (λ r. IfSome r (λ p. AllDiffer p.statements.items)) }
-    ensures free { IfOk result (λ r. IfSome r (λ p. IsFree 1 p.statements.items)) }
-    ensures few { IfOk result (λ r. IfSome r (λ p. length p.statements.items ≤ 4294967296)) }
 {
     let mut statements = Vec::new(alloc);
-    let mut next = BODY;
-    if push_stmt(variables, body, &mut next, &mut statements)? {
+    if push_stmt(variables, body, &mut statements)? {
         return Ok(Some(SimpleProgram { statements }));
     }
     Ok(None)
 }
 
-fn resolve_block(alloc: Global, block: &Block) -> Result<Option<SimpleProgram>, NoMemory>
-    ensures value { IfOk result (λ r. statements_in r ≡ spec.by_vars (out-Block block.now).vars (out-Block block.now).body) }
+fn resolve_tree(alloc: Global, tree: &Tree) -> Result<Option<SimpleProgram>, NoMemory>
+    ensures value { IfOk result (λ r. statements_in r ≡ resolved tree.now) }
     ensures forms { IfOk result (λ r. IfSome r (λ p. AllByRecursion (λ s. IsForm s.form) p.statements.items)) }
-    ensures differ { IfOk result (λ r. IfSome r (λ p. AllDiffer p.statements.items)) }
-    ensures free { IfOk result (λ r. IfSome r (λ p. IsFree 1 p.statements.items)) }
-    ensures few { IfOk result (λ r. IfSome r (λ p. length p.statements.items ≤ 4294967296)) }
 {
-    let [decl] = block.vars.as_slice() else {
-        return Ok(None);
-    };
-    let DeclKind::VarDecl(idents, shape) = &decl.kind else {
-        return Ok(None);
-    };
-    if !is_integer(shape) || !are_variables(idents.as_slice()) {
-        return Ok(None);
+    match declared_variables(tree) {
+        Some(variables) => resolve_body(alloc, variables, &tree.block.body),
+        None => Ok(None),
     }
-    resolve_body(alloc, idents.as_slice(), &block.body)
 }
 
 /// The statements of a simple program, their variables resolved. None where the program is not simple.
@@ -120,8 +137,23 @@ pub fn resolve_program(alloc: Global, program: &Program) -> Result<Option<Simple
     ensures free { IfOk result (λ r. IfSome r (λ p. IsFree 1 p.statements.items)) }
     ensures few { IfOk result (λ r. IfSome r (λ p. length p.statements.items ≤ 4294967296)) }
 {
-    if !program.files.is_empty() || !has_variables_alone(&program.block) {
-        return Ok(None);
+    resolve_tree(alloc, program.tree())
+}
+
+fn variables_in(program: Option<&Program>) -> &[Text]
+    ensures value { result.now ≡ spec.variables_in (option_copied program.entry) }
+    ensures few { length result.now ≤ 64 }
+{
+    match program {
+        Some(program) => declared_variables(program.tree()).unwrap_or(&[]),
+        None => &[],
     }
-    resolve_block(alloc, &program.block)
+}
+
+/// Whether a statement is of the forms that are built, over the variables of the program, if there is one.
+pub fn is_built(alloc: Global, program: Option<&Program>, stmt: &Stmt) -> Result<bool, NoMemory>
+    ensures { IfOk result (λ b. b ≡ spec.is_built (spec.variables_in (option_copied program.entry)) stmt.now) }
+{
+    let mut statements = Vec::new(alloc);
+    push_stmt(variables_in(program), stmt, &mut statements)
 }

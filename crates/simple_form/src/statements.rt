@@ -1,13 +1,12 @@
 //! Statements.
-ghost use Rattle.std.specs.Prelude.{◌≡◌, ◌≤◌, ◌+◌, ◌∷◌, [], length, Some, IfOk, IfSome};
+ghost use Rattle.std.specs.Prelude.{◌≡◌, ◌≤◌, ◌∷◌, [], length, Some, IfOk, IfSome};
 ghost use Rattle.std.specs.List.{AllByRecursion};
 ghost use Rattle.simple_form.specs.Simple as spec;
 ghost use Rattle.simple_form.specs.Simple.{IsAdded};
-ghost use Rattle.simple_form.specs.Names.{AreNamed};
 ghost use Rattle.pascal_semantics.specs.Valid.{IsForm, IsWidth};
 
 use crate::operands::{sum, variable};
-use dice_base::{NoMemory, Text};
+use dice_base::{Name, NoMemory, Text};
 use pascal_semantics::{Operand, SimpleForm, Statement, Sum};
 use program_tree::{Access, Arg, Expr, Stmt, StmtKind};
 
@@ -83,31 +82,18 @@ fn call(variables: &[Text], ident: &Text, args: &[Arg]) -> Option<SimpleForm>
     }
 }
 
-// The name behind this one.
-fn after(name: u32) -> Result<u32, NoMemory>
-    ensures next { IfOk result (λ next. next ≡ name + 1) }
-    ensures small { IfOk result (λ next. next ≤ 4294967295) }
-{
-    match name.checked_add(1) {
-        Some(next) => Ok(next),
-        None => Err(NoMemory),
-    }
-}
-
 fn push_leaf(
+    name: Name,
     form: Option<SimpleForm>,
-    next: &mut u32,
     out: &mut Vec<Statement>,
 ) -> Result<bool, NoMemory>
     requires { IfSome form IsForm }
-    ensures value { IfOk result (λ is. IsAdded is (spec.leaf next.old form, next.old + 1) out.old.items out.new.items next.new) }
+    ensures value { IfOk result (λ is. IsAdded is (spec.leaf name.0 form) out.old.items out.new.items) }
     ensures within { IfOk result (λ _. AllByRecursion (λ s. IsForm s.form) out.old.items → AllByRecursion (λ s. IsForm s.form) out.new.items) }
-    ensures named { IfOk result (λ _. AreNamed out.old.items next.old → AreNamed out.new.items next.new) }
 {
     match form {
         Some(form) => {
-            out.push(Statement { name: *next, form })?;
-            *next = after(*next)?;
+            out.push(Statement { name: name.0, form })?;
             Ok(true)
         }
         None => Ok(false),
@@ -118,68 +104,58 @@ fn push_leaf(
 #[tactic(auto, unfolding(crate::specs::Simple::stmt_of, crate::specs::Simple::kind_of))]
 fn push_kind(
     variables: &[Text],
+    name: Name,
     kind: &StmtKind,
-    next: &mut u32,
     out: &mut Vec<Statement>,
 ) -> Result<bool, NoMemory>
     requires { length variables.now ≤ 64 }
-    ensures value { IfOk result (λ is. IsAdded is (spec.kind_of variables.now kind.now next.old) out.old.items out.new.items next.new) }
+    ensures value { IfOk result (λ is. IsAdded is (spec.kind_of variables.now kind.now name.0) out.old.items out.new.items) }
     ensures within { IfOk result (λ _. AllByRecursion (λ s. IsForm s.form) out.old.items → AllByRecursion (λ s. IsForm s.form) out.new.items) }
-    ensures named { IfOk result (λ _. AreNamed out.old.items next.old → AreNamed out.new.items next.new) }
 {
     match kind {
-        StmtKind::Empty => push_leaf(Some(SimpleForm::Empty), next, out),
+        StmtKind::Empty => push_leaf(name, Some(SimpleForm::Empty), out),
         StmtKind::Assign(access, value) => {
-            push_leaf(assignment(variables, access, value), next, out)
+            push_leaf(name, assignment(variables, access, value), out)
         }
-        StmtKind::Call(ident, args) => push_leaf(
-            call(variables, ident, args.as_slice()),
-            next,
-            out,
-        ),
-        StmtKind::Compound(stmts) => {
-            *next = after(*next)?;
-            push_stmts(variables, stmts.as_slice(), next, out)
+        StmtKind::Call(ident, args) => {
+            push_leaf(name, call(variables, ident, args.as_slice()), out)
         }
+        StmtKind::Compound(stmts) => push_stmts(variables, stmts.as_slice(), out),
         _ => Ok(false),
     }
 }
 
-/// Adds the statements that have a block, in the order of the text, with the names from `next` on, which is then the
-/// next name; or says that some statement is not simple.
+/// Adds the statements that have a block, in the order of the text, each under its name; or says that some statement
+/// is not simple.
 #[cycle(push_stmt)]
 #[tactic(auto, unfolding(crate::specs::Simple::stmt_of, crate::specs::Simple::kind_of))]
 pub fn push_stmt(
     variables: &[Text],
     stmt: &Stmt,
-    next: &mut u32,
     out: &mut Vec<Statement>,
 ) -> Result<bool, NoMemory>
     requires { length variables.now ≤ 64 }
-    ensures value { IfOk result (λ is. IsAdded is (spec.stmt_of variables.now stmt.now next.old) out.old.items out.new.items next.new) }
+    ensures value { IfOk result (λ is. IsAdded is (spec.stmt_of variables.now stmt.now) out.old.items out.new.items) }
     ensures within { IfOk result (λ _. AllByRecursion (λ s. IsForm s.form) out.old.items → AllByRecursion (λ s. IsForm s.form) out.new.items) }
-    ensures named { IfOk result (λ _. AreNamed out.old.items next.old → AreNamed out.new.items next.new) }
 {
     if stmt.label.is_some() {
         return Ok(false);
     }
-    push_kind(variables, &stmt.kind, next, out)
+    push_kind(variables, stmt.name, &stmt.kind, out)
 }
 
 #[cycle(push_stmt)]
 fn push_stmts(
     variables: &[Text],
     stmts: &[Stmt],
-    next: &mut u32,
     out: &mut Vec<Statement>,
 ) -> Result<bool, NoMemory>
     requires { length variables.now ≤ 64 }
-    ensures value { IfOk result (λ is. IsAdded is (spec.stmts_of variables.now stmts.now next.old) out.old.items out.new.items next.new) }
+    ensures value { IfOk result (λ is. IsAdded is (spec.stmts_of variables.now stmts.now) out.old.items out.new.items) }
     ensures within { IfOk result (λ _. AllByRecursion (λ s. IsForm s.form) out.old.items → AllByRecursion (λ s. IsForm s.form) out.new.items) }
-    ensures named { IfOk result (λ _. AreNamed out.old.items next.old → AreNamed out.new.items next.new) }
 {
     for stmt in stmts {
-        if !push_stmt(variables, stmt, next, out)? {
+        if !push_stmt(variables, stmt, out)? {
             return Ok(false);
         }
     }

@@ -1,16 +1,19 @@
 //! A simple program, and programs that differ from it at one place.
 use super::*;
+use crate::statements::push_stmt;
 use dice_base::{Name, NoMemory, Text};
+use named_program::{Program, name_program};
 use pascal_semantics::{Operand, SimpleForm, Statement, Sum};
 use program_tree::{
-    Access, AddOp, AddPart, Arg, Block, Decl, DeclKind, Expr, Factor, Prefix, Program, Stmt,
-    StmtKind, SumExpr, Term, TypeText,
+    Access, AddOp, AddPart, Arg, Block, Decl, DeclKind, Expr, Factor, Prefix, Program as Tree,
+    Stmt, StmtKind, SumExpr, Term, TypeText,
 };
 use sqlite_items::Items;
 use std::alloc::Global;
 use std::test::Fail;
 
-// `program p; var FIRST, SECOND: SHAPE; begin TARGET := a OP NUMBER; ; begin CALL(b : WIDTH) end end.`
+// `program p; var FIRST, SECOND: SHAPE; begin TARGET := a OP NUMBER; ; begin CALL(b : WIDTH) end end.` The names of its
+// statements do not rise in the order of the text.
 #[derive(Clone, Copy)]
 struct Case {
     first: &'static [u8],
@@ -77,7 +80,7 @@ fn assignment(alloc: Global, case: Case) -> Result<Stmt, NoMemory> {
     })?;
     let value = expr(alloc, Factor::Access(variable(alloc, b"a")?), rest);
     let target = variable(alloc, case.target)?;
-    Ok(stmt(4, case.label, StmtKind::Assign(target, value)))
+    Ok(stmt(9, case.label, StmtKind::Assign(target, value)))
 }
 
 fn call(alloc: Global, case: Case) -> Result<Stmt, NoMemory> {
@@ -95,15 +98,15 @@ fn call(alloc: Global, case: Case) -> Result<Stmt, NoMemory> {
     let ident = Text::from_slice(alloc, case.call)?;
     let mut stmts = Items::new(alloc);
     stmts.push(stmt(7, None, StmtKind::Call(ident, args)))?;
-    Ok(stmt(6, None, StmtKind::Compound(stmts)))
+    Ok(stmt(12, None, StmtKind::Compound(stmts)))
 }
 
 fn body(alloc: Global, case: Case) -> Result<Stmt, NoMemory> {
     let mut stmts = Items::new(alloc);
     stmts.push(assignment(alloc, case)?)?;
-    stmts.push(stmt(5, None, StmtKind::Empty))?;
+    stmts.push(stmt(4, None, StmtKind::Empty))?;
     stmts.push(call(alloc, case)?)?;
-    Ok(stmt(3, None, StmtKind::Compound(stmts)))
+    Ok(stmt(20, None, StmtKind::Compound(stmts)))
 }
 
 fn declaration(alloc: Global, case: Case) -> Result<Decl, NoMemory> {
@@ -117,10 +120,11 @@ fn declaration(alloc: Global, case: Case) -> Result<Decl, NoMemory> {
     })
 }
 
+// The program, its items named in the order of the text.
 fn program(alloc: Global, case: Case) -> Result<Program, NoMemory> {
     let mut vars = Items::new(alloc);
     vars.push(declaration(alloc, case)?)?;
-    Ok(Program {
+    let tree = Tree {
         ident: Text::from_slice(alloc, b"p")?,
         files: Items::new(alloc),
         block: Block {
@@ -131,8 +135,9 @@ fn program(alloc: Global, case: Case) -> Result<Program, NoMemory> {
             routines: Items::new(alloc),
             body: body(alloc, case)?,
         },
-        next: 8,
-    })
+        next: 0,
+    };
+    name_program(alloc, &tree)
 }
 
 fn is_simple(alloc: Global, case: Case) -> Result<bool, NoMemory> {
@@ -151,32 +156,67 @@ const WRITTEN: Sum = Sum {
     second: None,
 };
 
-fn is_expected(answer: &Option<SimpleProgram>) -> bool {
-    let Some(simple) = answer else {
-        return false;
-    };
+fn are_expected(statements: &[Statement], names: [u32; 3]) -> bool {
     let expected = [
         Statement {
-            name: 4,
+            name: names[0],
             form: SimpleForm::Assign(1, SUM),
         },
         Statement {
-            name: 5,
+            name: names[1],
             form: SimpleForm::Empty,
         },
         Statement {
-            name: 7,
+            name: names[2],
             form: SimpleForm::WriteLine(WRITTEN, Some(255)),
         },
     ];
-    simple.statements.as_slice() == expected.as_slice()
+    statements == expected.as_slice()
 }
 
 #[test]
 fn resolves_a_simple_program(rt: HostRuntime) -> Result<(), Fail> {
     let program = program(rt.alloc(), SIMPLE)?;
     let answer = resolve_program(rt.alloc(), &program)?;
-    assert!(rt; is_expected(&answer));
+    let is_expected = match &answer {
+        Some(simple) => are_expected(simple.statements.as_slice(), [4, 5, 7]),
+        None => false,
+    };
+    assert!(rt; is_expected);
+    Ok(())
+}
+
+#[test]
+fn statements_keep_their_names(rt: HostRuntime) -> Result<(), Fail> {
+    let variables = [
+        Text::from_slice(rt.alloc(), b"a")?,
+        Text::from_slice(rt.alloc(), b"b")?,
+    ];
+    let body = body(rt.alloc(), SIMPLE)?;
+    let mut statements = Vec::new(rt.alloc());
+    let is_simple = push_stmt(&variables, &body, &mut statements)?;
+    assert!(rt; is_simple);
+    assert!(rt; are_expected(statements.as_slice(), [9, 4, 7]));
+    Ok(())
+}
+
+#[test]
+fn statements_are_built_over_variables(rt: HostRuntime) -> Result<(), Fail> {
+    let program = program(rt.alloc(), SIMPLE)?;
+    let other_type = Case {
+        shape: b"char",
+        ..SIMPLE
+    };
+    let without_variables = self::program(rt.alloc(), other_type)?;
+    let assignment = assignment(rt.alloc(), SIMPLE)?;
+    let empty = stmt(4, None, StmtKind::Empty);
+    let built = [
+        is_built(rt.alloc(), Some(&program), &assignment)?,
+        is_built(rt.alloc(), Some(&without_variables), &assignment)?,
+        is_built(rt.alloc(), None, &assignment)?,
+        is_built(rt.alloc(), None, &empty)?,
+    ];
+    assert_eq!(rt; built, [true, false, false, true]);
     Ok(())
 }
 

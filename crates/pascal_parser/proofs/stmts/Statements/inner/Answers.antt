@@ -1,6 +1,6 @@
 use Rattle.std.proofs.Common.{arith, ◌<◌, ◌-◌}
 use Rattle.grammar_laws.specs.StmtReading.{stmt_in}
-use Rattle.pascal_parser.proofs.Turns.{deeper}
+use Rattle.expression_parser.proofs.Turns.{deeper}
 use Rattle.pascal_parser.proofs.stmts.Statements.inner.Goals as goal
 
 pub returns : goal.returns

@@ -1,0 +1,5 @@
+pub mod Added
+pub mod Counted
+pub mod Opened
+pub mod Searched
+pub mod Standing

@@ -1,0 +1,4 @@
+pub mod Events
+pub mod Layout
+pub mod Listing
+pub mod Symbols

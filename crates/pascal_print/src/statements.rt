@@ -1,0 +1,354 @@
+//! Statements as events.
+ghost use Rattle.std.specs.Prelude.{◌≡◌, ◌+◌, ◌++◌, [], ◌∷◌, map, IfOk, OnOk};
+ghost use Rattle.dice_base.specs.declared.token.TokenKind.TheVariants as token;
+ghost use Rattle.pascal_print.specs.Events as spec;
+ghost use Rattle.pascal_print.specs.Events.{said, child};
+ghost use Rattle.pascal_print.specs.Symbols.{becomes_sign, do_word, else_word, goto_word, if_word, then_word, until_word, with_word};
+ghost use Rattle.tree_text.specs.Symbols.{colon_sign};
+ghost use Rattle.tree_text.specs.Expressions.{expr_tokens, access_tokens, accesses_tokens, args_tokens};
+ghost use Rattle.tree_text.specs.Declarations.{constants_tokens};
+
+use crate::event::Event;
+use crate::events::Events;
+use crate::symbols::{
+    BECOMES_SIGN, BEGIN, CASE, COLON_SIGN, DO, DOWNTO, ELSE, END, FOR, GOTO, IF, OF, REPEAT,
+    SEMICOLON_SIGN, THEN, TO, UNTIL, WHILE, WITH,
+};
+use dice_base::{NoMemory, Text, TokenKind};
+use program_tree::{Access, Arg, Arm, Constant, Expr, Stmt, StmtKind};
+use std::alloc::Global;
+use tree_text::{push_access, push_accesses, push_args, push_constants, push_expr};
+
+/// The level of what stands in an item of this level. Where it has no number, the tree is refused as if there were no
+/// memory.
+pub fn deeper(level: usize) -> Result<usize, NoMemory>
+    ensures { IfOk result (λ n. n ≡ level + 1) }
+{
+    if level == usize::MAX {
+        return Err(NoMemory);
+    }
+    Ok(level + 1)
+}
+
+fn push_label(label: Option<u16>, out: &mut Events) -> Result<(), NoMemory>
+    ensures { OnOk result (out.new ≡ out.old ++ said (spec.label_tokens label)) }
+{
+    match label {
+        None => Ok(()),
+        Some(n) => {
+            out.push_token(TokenKind::Number(n))?;
+            out.push_token(TokenKind::Sign(COLON_SIGN))
+        }
+    }
+}
+
+// A word, an expression and a word behind it.
+fn push_tested(
+    alloc: Global,
+    word: u8,
+    test: &Expr,
+    last: u8,
+    out: &mut Events,
+) -> Result<(), NoMemory>
+    ensures { OnOk result (out.new ≡ out.old ++ spec.tested (token.Word word) test.now (token.Word last)) }
+{
+    let mut tokens = Vec::new(alloc);
+    tokens.push(TokenKind::Word(word))?;
+    push_expr(alloc, test, &mut tokens)?;
+    tokens.push(TokenKind::Word(last))?;
+    out.push_tokens(tokens)
+}
+
+fn push_until(alloc: Global, test: &Expr, out: &mut Events) -> Result<(), NoMemory>
+    ensures { OnOk result (out.new ≡ out.old ++ said (until_word ∷ expr_tokens test.now)) }
+{
+    let mut tokens = Vec::new(alloc);
+    tokens.push(TokenKind::Word(UNTIL))?;
+    push_expr(alloc, test, &mut tokens)?;
+    out.push_tokens(tokens)
+}
+
+fn push_assign(
+    alloc: Global,
+    access: &Access,
+    value: &Expr,
+    out: &mut Events,
+) -> Result<(), NoMemory>
+    ensures { OnOk result (out.new ≡ out.old ++ said (access_tokens access.now ++ becomes_sign ∷ expr_tokens value.now)) }
+{
+    let mut tokens = Vec::new(alloc);
+    push_access(alloc, access, &mut tokens)?;
+    tokens.push(TokenKind::Sign(BECOMES_SIGN))?;
+    push_expr(alloc, value, &mut tokens)?;
+    out.push_tokens(tokens)
+}
+
+fn push_call(alloc: Global, ident: &Text, args: &[Arg], out: &mut Events) -> Result<(), NoMemory>
+    ensures { OnOk result (out.new ≡ out.old ++ said (token.Ident ident.now ∷ args_tokens args.now)) }
+{
+    let mut tokens = Vec::new(alloc);
+    tokens.push(TokenKind::Ident(ident.copy(alloc)?))?;
+    push_args(alloc, args, &mut tokens)?;
+    out.push_tokens(tokens)
+}
+
+fn push_goto(label: u16, out: &mut Events) -> Result<(), NoMemory>
+    ensures { OnOk result (out.new ≡ out.old ++ said (goto_word ∷ token.Number label ∷ [])) }
+{
+    out.push_token(TokenKind::Word(GOTO))?;
+    out.push_token(TokenKind::Number(label))
+}
+
+// What a `for` statement has before its body.
+fn push_range(
+    alloc: Global,
+    ident: &Text,
+    first: &Expr,
+    down: bool,
+    last: &Expr,
+    out: &mut Events,
+) -> Result<(), NoMemory>
+    ensures { OnOk result (out.new ≡ out.old ++ said (spec.range ident.now first.now down last.now)) }
+{
+    let mut tokens = Vec::new(alloc);
+    tokens.push(TokenKind::Word(FOR))?;
+    tokens.push(TokenKind::Ident(ident.copy(alloc)?))?;
+    tokens.push(TokenKind::Sign(BECOMES_SIGN))?;
+    push_expr(alloc, first, &mut tokens)?;
+    tokens.push(TokenKind::Word(if down { DOWNTO } else { TO }))?;
+    push_expr(alloc, last, &mut tokens)?;
+    tokens.push(TokenKind::Word(DO))?;
+    out.push_tokens(tokens)
+}
+
+fn push_records(alloc: Global, records: &[Access], out: &mut Events) -> Result<(), NoMemory>
+    ensures { OnOk result (out.new ≡ out.old ++ said (with_word ∷ accesses_tokens records.now ++ do_word ∷ [])) }
+{
+    let mut tokens = Vec::new(alloc);
+    tokens.push(TokenKind::Word(WITH))?;
+    push_accesses(alloc, records, &mut tokens)?;
+    tokens.push(TokenKind::Word(DO))?;
+    out.push_tokens(tokens)
+}
+
+fn push_selectors(alloc: Global, constants: &[Constant], out: &mut Events) -> Result<(), NoMemory>
+    ensures { OnOk result (out.new ≡ out.old ++ said (constants_tokens constants.now ++ colon_sign ∷ [])) }
+{
+    let mut tokens = Vec::new(alloc);
+    push_constants(alloc, constants, &mut tokens)?;
+    tokens.push(TokenKind::Sign(COLON_SIGN))?;
+    out.push_tokens(tokens)
+}
+
+#[cycle(push_stmt)]
+fn push_child(alloc: Global, stmt: &Stmt, level: usize, out: &mut Events) -> Result<(), NoMemory>
+    ensures { OnOk result (out.new ≡ out.old ++ child (spec.stmt_events stmt.now) level) }
+{
+    let inner = deeper(level)?;
+    push_stmt(alloc, stmt, inner, out)?;
+    out.push(Event::Back(level))
+}
+
+#[cycle(push_stmt)]
+fn push_sequence(
+    alloc: Global,
+    stmts: &[Stmt],
+    level: usize,
+    out: &mut Events,
+) -> Result<(), NoMemory>
+    ensures { OnOk result (out.new ≡ out.old ++ spec.sequence (map child (map spec.stmt_events stmts.now)) level) }
+{
+    match stmts {
+        [] => Ok(()),
+        [first, rest @ ..] => {
+            push_child(alloc, first, level, out)?;
+            for stmt in rest {
+                out.push_token(TokenKind::Sign(SEMICOLON_SIGN))?;
+                push_child(alloc, stmt, level, out)?;
+            }
+            Ok(())
+        }
+    }
+}
+
+#[cycle(push_stmt)]
+#[tactic(auto, unfolding(crate::specs::Events::stmt_events, crate::specs::Events::kind_events, crate::specs::Events::arm_events))]
+fn push_arm(alloc: Global, arm: &Arm, level: usize, out: &mut Events) -> Result<(), NoMemory>
+    ensures { OnOk result (out.new ≡ out.old ++ spec.arm_events arm.now level) }
+{
+    push_selectors(alloc, arm.constants.as_slice(), out)?;
+    push_child(alloc, &arm.body, level, out)
+}
+
+#[cycle(push_stmt)]
+fn push_arms(alloc: Global, arms: &[Arm], level: usize, out: &mut Events) -> Result<(), NoMemory>
+    ensures { OnOk result (out.new ≡ out.old ++ spec.sequence (map spec.arm_events arms.now) level) }
+{
+    match arms {
+        [] => Ok(()),
+        [first, rest @ ..] => {
+            push_arm(alloc, first, level, out)?;
+            for arm in rest {
+                out.push_token(TokenKind::Sign(SEMICOLON_SIGN))?;
+                push_arm(alloc, arm, level, out)?;
+            }
+            Ok(())
+        }
+    }
+}
+
+#[cycle(push_stmt)]
+#[tactic(auto, unfolding(crate::specs::Events::stmt_events, crate::specs::Events::kind_events, crate::specs::Events::arm_events))]
+fn push_compound(
+    alloc: Global,
+    stmts: &[Stmt],
+    level: usize,
+    out: &mut Events,
+) -> Result<(), NoMemory>
+    ensures { OnOk result (out.new ≡ out.old ++ spec.kind_events (StmtKind.Compound stmts.now) level) }
+{
+    out.push_token(TokenKind::Word(BEGIN))?;
+    push_sequence(alloc, stmts, level, out)?;
+    out.push_token(TokenKind::Word(END))
+}
+
+#[cycle(push_stmt)]
+fn push_then(
+    alloc: Global,
+    yes: &Stmt,
+    test: &Expr,
+    level: usize,
+    out: &mut Events,
+) -> Result<(), NoMemory>
+    ensures { OnOk result (out.new ≡ out.old ++ (spec.tested if_word test.now then_word ++ child (spec.stmt_events yes.now) level)) }
+{
+    push_tested(alloc, IF, test, THEN, out)?;
+    push_child(alloc, yes, level, out)
+}
+
+#[cycle(push_stmt)]
+fn push_else(alloc: Global, no: &Stmt, level: usize, out: &mut Events) -> Result<(), NoMemory>
+    ensures { OnOk result (out.new ≡ out.old ++ Event.Token else_word ∷ child (spec.stmt_events no.now) level) }
+{
+    out.push_token(TokenKind::Word(ELSE))?;
+    push_child(alloc, no, level, out)
+}
+
+#[cycle(push_stmt)]
+#[tactic(auto, unfolding(crate::specs::Events::stmt_events, crate::specs::Events::kind_events, crate::specs::Events::arm_events))]
+fn push_case(
+    alloc: Global,
+    arms: &[Arm],
+    selector: &Expr,
+    level: usize,
+    out: &mut Events,
+) -> Result<(), NoMemory>
+    ensures { OnOk result (out.new ≡ out.old ++ spec.kind_events (StmtKind.Case selector.now arms.now) level) }
+{
+    push_tested(alloc, CASE, selector, OF, out)?;
+    push_arms(alloc, arms, level, out)?;
+    out.push_token(TokenKind::Word(END))
+}
+
+#[cycle(push_stmt)]
+#[tactic(auto, unfolding(crate::specs::Events::stmt_events, crate::specs::Events::kind_events, crate::specs::Events::arm_events))]
+fn push_while(
+    alloc: Global,
+    body: &Stmt,
+    test: &Expr,
+    level: usize,
+    out: &mut Events,
+) -> Result<(), NoMemory>
+    ensures { OnOk result (out.new ≡ out.old ++ spec.kind_events (StmtKind.While test.now body.now) level) }
+{
+    push_tested(alloc, WHILE, test, DO, out)?;
+    push_child(alloc, body, level, out)
+}
+
+#[cycle(push_stmt)]
+#[tactic(auto, unfolding(crate::specs::Events::stmt_events, crate::specs::Events::kind_events, crate::specs::Events::arm_events))]
+fn push_repeat(
+    alloc: Global,
+    stmts: &[Stmt],
+    test: &Expr,
+    level: usize,
+    out: &mut Events,
+) -> Result<(), NoMemory>
+    ensures { OnOk result (out.new ≡ out.old ++ spec.kind_events (StmtKind.Repeat stmts.now test.now) level) }
+{
+    out.push_token(TokenKind::Word(REPEAT))?;
+    push_sequence(alloc, stmts, level, out)?;
+    push_until(alloc, test, out)
+}
+
+#[cycle(push_stmt)]
+#[tactic(auto, unfolding(crate::specs::Events::stmt_events, crate::specs::Events::kind_events, crate::specs::Events::arm_events))]
+fn push_for(
+    alloc: Global,
+    body: &Stmt,
+    ident: &Text,
+    first: &Expr,
+    down: bool,
+    last: &Expr,
+    level: usize,
+    out: &mut Events,
+) -> Result<(), NoMemory>
+    ensures { OnOk result (out.new ≡ out.old ++ spec.kind_events (StmtKind.For ident.now first.now down last.now body.now) level) }
+{
+    push_range(alloc, ident, first, down, last, out)?;
+    push_child(alloc, body, level, out)
+}
+
+#[cycle(push_stmt)]
+#[tactic(auto, unfolding(crate::specs::Events::stmt_events, crate::specs::Events::kind_events, crate::specs::Events::arm_events))]
+fn push_with(
+    alloc: Global,
+    body: &Stmt,
+    records: &[Access],
+    level: usize,
+    out: &mut Events,
+) -> Result<(), NoMemory>
+    ensures { OnOk result (out.new ≡ out.old ++ spec.kind_events (StmtKind.With records.now body.now) level) }
+{
+    push_records(alloc, records, out)?;
+    push_child(alloc, body, level, out)
+}
+
+#[cycle(push_stmt)]
+#[tactic(auto, unfolding(crate::specs::Events::stmt_events, crate::specs::Events::kind_events, crate::specs::Events::arm_events))]
+fn push_kind(alloc: Global, kind: &StmtKind, level: usize, out: &mut Events) -> Result<(), NoMemory>
+    ensures { OnOk result (out.new ≡ out.old ++ spec.kind_events kind.now level) }
+{
+    match kind {
+        StmtKind::Empty => Ok(()),
+        StmtKind::Assign(access, value) => push_assign(alloc, access, value, out),
+        StmtKind::Call(ident, args) => push_call(alloc, ident, args.as_slice(), out),
+        StmtKind::Goto(label) => push_goto(*label, out),
+        StmtKind::Compound(stmts) => push_compound(alloc, stmts.as_slice(), level, out),
+        StmtKind::If(test, yes, None) => push_then(alloc, yes.get(), test, level, out),
+        StmtKind::If(test, yes, Some(no)) => {
+            push_then(alloc, yes.get(), test, level, out)?;
+            push_else(alloc, no.get(), level, out)
+        }
+        StmtKind::Case(selector, arms) => push_case(alloc, arms.as_slice(), selector, level, out),
+        StmtKind::While(test, body) => push_while(alloc, body.get(), test, level, out),
+        StmtKind::Repeat(stmts, test) => push_repeat(alloc, stmts.as_slice(), test, level, out),
+        StmtKind::For(ident, first, down, last, body) => {
+            push_for(alloc, body.get(), ident, first, *down, last, level, out)
+        }
+        StmtKind::With(records, body) => {
+            push_with(alloc, body.get(), records.as_slice(), level, out)
+        }
+    }
+}
+
+/// Adds the events of a statement of this level.
+#[cycle(push_stmt)]
+#[tactic(auto, unfolding(crate::specs::Events::stmt_events, crate::specs::Events::kind_events, crate::specs::Events::arm_events))]
+pub fn push_stmt(alloc: Global, stmt: &Stmt, level: usize, out: &mut Events) -> Result<(), NoMemory>
+    ensures { OnOk result (out.new ≡ out.old ++ spec.stmt_events stmt.now level) }
+{
+    out.push(Event::Item(stmt.name, level))?;
+    push_label(stmt.label, out)?;
+    push_kind(alloc, &stmt.kind, level, out)
+}

@@ -1,0 +1,9 @@
+pub mod Among
+pub mod Distinct
+pub mod EditedRows
+pub mod Found
+pub mod Items
+pub mod Lists
+pub mod NamedAfter
+pub mod RowSplits
+pub mod Splits

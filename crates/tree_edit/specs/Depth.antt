@@ -1,0 +1,135 @@
+-- How many levels a tree takes, with its own: a bracketed expression, an argument, an index, a member of a set, the operand of
+-- `not` and a statement are each one level below that in which they stand.
+use Rattle.std.specs.Prelude.{ℕ, ◌+◌, max, List, [], ◌∷◌, Option, Some, None, map}
+use Rattle.program_tree.specs.declared.expr.AccessPart.{AccessPart, AccessPart-F, fold-AccessPart}
+use Rattle.program_tree.specs.declared.expr.Factor.{Factor, Factor-F, fold-Factor}
+use Rattle.program_tree.specs.declared.expr.Access.{Access, Access-F, fold-Access}
+use Rattle.program_tree.specs.declared.expr.AddPart.{AddPart, AddPart-F, fold-AddPart}
+use Rattle.program_tree.specs.declared.expr.Arg.{Arg, Arg-F, fold-Arg}
+use Rattle.program_tree.specs.declared.expr.Expr.{Expr, Expr-F, fold-Expr}
+use Rattle.program_tree.specs.declared.expr.MulPart.{MulPart, MulPart-F, fold-MulPart}
+use Rattle.program_tree.specs.declared.expr.RelPart.{RelPart, RelPart-F, fold-RelPart}
+use Rattle.program_tree.specs.declared.expr.SetMember.{SetMember, SetMember-F, fold-SetMember}
+use Rattle.program_tree.specs.declared.expr.SumExpr.{SumExpr, SumExpr-F, fold-SumExpr}
+use Rattle.program_tree.specs.declared.expr.Term.{Term, Term-F, fold-Term}
+use Rattle.program_tree.specs.declared.stmt.Stmt.{Stmt, Stmt-F, fold-Stmt}
+use Rattle.program_tree.specs.declared.stmt.StmtKind.{StmtKind, StmtKind-F, fold-StmtKind}
+use Rattle.program_tree.specs.declared.stmt.Arm.{Arm, Arm-F, fold-Arm}
+
+-- the greatest of some numbers, 0 where there is none
+abbrev pub most : List ℕ → ℕ
+most [] = 0
+most (n ∷ ns) = max n (most ns)
+
+abbrev pub if_any : Option ℕ → ℕ
+if_any None = 0
+if_any (Some n) = n
+
+-- ---- expressions, of one layer, where each part stands for the levels that it takes
+
+abbrev pub of_access_part : AccessPart-F ℕ ℕ ℕ ℕ ℕ ℕ ℕ ℕ ℕ ℕ ℕ → ℕ
+of_access_part (AccessPart-F.Index exprs) = most exprs
+of_access_part (AccessPart-F.Field x) = 0
+of_access_part AccessPart-F.Dereference = 0
+
+abbrev pub of_factor : Factor-F ℕ ℕ ℕ ℕ ℕ ℕ ℕ ℕ ℕ ℕ ℕ → ℕ
+of_factor (Factor-F.Number n) = 1
+of_factor (Factor-F.Str text) = 1
+of_factor Factor-F.Nil = 1
+of_factor (Factor-F.Access access) = access
+of_factor (Factor-F.Call x args) = most args + 1
+of_factor (Factor-F.Members members) = most members + 1
+of_factor (Factor-F.Paren expr) = expr + 1
+of_factor (Factor-F.Not operand) = operand + 1
+
+abbrev pub of_access : Access-F ℕ ℕ ℕ ℕ ℕ ℕ ℕ ℕ ℕ ℕ ℕ → ℕ
+of_access a = most a.parts + 1
+
+abbrev pub of_add_part : AddPart-F ℕ ℕ ℕ ℕ ℕ ℕ ℕ ℕ ℕ ℕ ℕ → ℕ
+of_add_part p = p.right
+
+abbrev pub of_arg : Arg-F ℕ ℕ ℕ ℕ ℕ ℕ ℕ ℕ ℕ ℕ ℕ → ℕ
+of_arg a = max a.value (if_any a.width)
+
+abbrev pub of_expr : Expr-F ℕ ℕ ℕ ℕ ℕ ℕ ℕ ℕ ℕ ℕ ℕ → ℕ
+of_expr e = max e.first (if_any e.rest)
+
+abbrev pub of_mul_part : MulPart-F ℕ ℕ ℕ ℕ ℕ ℕ ℕ ℕ ℕ ℕ ℕ → ℕ
+of_mul_part p = p.right
+
+abbrev pub of_rel_part : RelPart-F ℕ ℕ ℕ ℕ ℕ ℕ ℕ ℕ ℕ ℕ ℕ → ℕ
+of_rel_part p = p.right
+
+abbrev pub of_member : SetMember-F ℕ ℕ ℕ ℕ ℕ ℕ ℕ ℕ ℕ ℕ ℕ → ℕ
+of_member m = max m.first (if_any m.last)
+
+abbrev pub of_sum : SumExpr-F ℕ ℕ ℕ ℕ ℕ ℕ ℕ ℕ ℕ ℕ ℕ → ℕ
+of_sum s = max s.first (most s.rest)
+
+abbrev pub of_term : Term-F ℕ ℕ ℕ ℕ ℕ ℕ ℕ ℕ ℕ ℕ ℕ → ℕ
+of_term t = max t.first (most t.rest)
+
+-- ---- whole expressions
+
+unfoldable pub access_part_depth : AccessPart → ℕ
+access_part_depth = fold-AccessPart ℕ ℕ ℕ ℕ ℕ ℕ ℕ ℕ ℕ ℕ ℕ of_access_part of_factor of_access of_add_part of_arg of_expr of_mul_part of_rel_part of_member of_sum of_term
+
+unfoldable pub factor_depth : Factor → ℕ
+factor_depth = fold-Factor ℕ ℕ ℕ ℕ ℕ ℕ ℕ ℕ ℕ ℕ ℕ of_access_part of_factor of_access of_add_part of_arg of_expr of_mul_part of_rel_part of_member of_sum of_term
+
+unfoldable pub access_depth : Access → ℕ
+access_depth = fold-Access ℕ ℕ ℕ ℕ ℕ ℕ ℕ ℕ ℕ ℕ ℕ of_access_part of_factor of_access of_add_part of_arg of_expr of_mul_part of_rel_part of_member of_sum of_term
+
+unfoldable pub add_part_depth : AddPart → ℕ
+add_part_depth = fold-AddPart ℕ ℕ ℕ ℕ ℕ ℕ ℕ ℕ ℕ ℕ ℕ of_access_part of_factor of_access of_add_part of_arg of_expr of_mul_part of_rel_part of_member of_sum of_term
+
+unfoldable pub arg_depth : Arg → ℕ
+arg_depth = fold-Arg ℕ ℕ ℕ ℕ ℕ ℕ ℕ ℕ ℕ ℕ ℕ of_access_part of_factor of_access of_add_part of_arg of_expr of_mul_part of_rel_part of_member of_sum of_term
+
+unfoldable pub expr_depth : Expr → ℕ
+expr_depth = fold-Expr ℕ ℕ ℕ ℕ ℕ ℕ ℕ ℕ ℕ ℕ ℕ of_access_part of_factor of_access of_add_part of_arg of_expr of_mul_part of_rel_part of_member of_sum of_term
+
+unfoldable pub mul_part_depth : MulPart → ℕ
+mul_part_depth = fold-MulPart ℕ ℕ ℕ ℕ ℕ ℕ ℕ ℕ ℕ ℕ ℕ of_access_part of_factor of_access of_add_part of_arg of_expr of_mul_part of_rel_part of_member of_sum of_term
+
+unfoldable pub rel_part_depth : RelPart → ℕ
+rel_part_depth = fold-RelPart ℕ ℕ ℕ ℕ ℕ ℕ ℕ ℕ ℕ ℕ ℕ of_access_part of_factor of_access of_add_part of_arg of_expr of_mul_part of_rel_part of_member of_sum of_term
+
+unfoldable pub member_depth : SetMember → ℕ
+member_depth = fold-SetMember ℕ ℕ ℕ ℕ ℕ ℕ ℕ ℕ ℕ ℕ ℕ of_access_part of_factor of_access of_add_part of_arg of_expr of_mul_part of_rel_part of_member of_sum of_term
+
+unfoldable pub sum_depth : SumExpr → ℕ
+sum_depth = fold-SumExpr ℕ ℕ ℕ ℕ ℕ ℕ ℕ ℕ ℕ ℕ ℕ of_access_part of_factor of_access of_add_part of_arg of_expr of_mul_part of_rel_part of_member of_sum of_term
+
+unfoldable pub term_depth : Term → ℕ
+term_depth = fold-Term ℕ ℕ ℕ ℕ ℕ ℕ ℕ ℕ ℕ ℕ ℕ of_access_part of_factor of_access of_add_part of_arg of_expr of_mul_part of_rel_part of_member of_sum of_term
+
+-- ---- statements
+
+abbrev pub of_kind : StmtKind-F ℕ ℕ ℕ → ℕ
+of_kind StmtKind-F.Empty = 1
+of_kind (StmtKind-F.Assign access value) = max (access_depth access) (expr_depth value)
+of_kind (StmtKind-F.Call x args) = most (map arg_depth args) + 1
+of_kind (StmtKind-F.Goto label) = 1
+of_kind (StmtKind-F.Compound stmts) = most stmts + 1
+of_kind (StmtKind-F.If test first second) = max (expr_depth test) (max first (if_any second) + 1)
+of_kind (StmtKind-F.Case selector arms) = max (expr_depth selector) (most arms + 1)
+of_kind (StmtKind-F.While test body) = max (expr_depth test) (body + 1)
+of_kind (StmtKind-F.Repeat stmts test) = max (expr_depth test) (most stmts + 1)
+of_kind (StmtKind-F.For x first down last body) = max (max (expr_depth first) (expr_depth last)) (body + 1)
+of_kind (StmtKind-F.With records body) = max (most (map access_depth records)) (body + 1)
+
+abbrev pub of_arm : Arm-F ℕ ℕ ℕ → ℕ
+of_arm a = a.body
+
+abbrev pub of_stmt : Stmt-F ℕ ℕ ℕ → ℕ
+of_stmt s = s.kind
+
+unfoldable pub kind_depth : StmtKind → ℕ
+kind_depth = fold-StmtKind ℕ ℕ ℕ of_kind of_arm of_stmt
+
+unfoldable pub arm_depth : Arm → ℕ
+arm_depth = fold-Arm ℕ ℕ ℕ of_kind of_arm of_stmt
+
+unfoldable pub stmt_depth : Stmt → ℕ
+stmt_depth = fold-Stmt ℕ ℕ ℕ of_kind of_arm of_stmt

@@ -1,0 +1,99 @@
+-- Edits of a program, with their faults in order.
+use Rattle.std.specs.Prelude.{◌≡◌, ℕ, ◌+◌, ◌-◌, nat_lt, Bool, true, false, not, ◌&&◌, ◌||◌, if◌then◌else◌, List, ◌++◌, length, Option, Some, None, option_and_then, Result, Ok, Err}
+use Rattle.dice_base.specs.declared.name.Name.{Name}
+use Rattle.program_tree.specs.declared.stmt.Stmt.{Stmt, out-Stmt}
+use Rattle.program_tree.specs.declared.stmt.StmtKind.{StmtKind, StmtKind-F, out-StmtKind}
+use Rattle.program_tree.specs.declared.stmt.Arm.{Arm}
+use Rattle.program_tree.specs.declared.decl.Block.{Block}
+use Rattle.program_tree.specs.declared.program.Program.{Program as Tree}
+use Rattle.tree_names.specs.Names.{names_within, renamed}
+use Rattle.named_program.specs.Paths.{ItemValue, OfStmt, tree_at}
+use Rattle.named_program.specs.Rows.{Row, stmt_rows, program_rows}
+use Rattle.named_program.specs.Lookups.{name_of, path_of}
+use Rattle.tree_edit.specs.declared.fault.EditFault.{EditFault}
+use Rattle.tree_edit.specs.declared.fault.EditFault.TheVariants.{NoSuchName, WrongKind, TooDeep, NamesSpent, NoMemory}
+use Rattle.tree_edit.specs.Depth.{stmt_depth}
+use Rattle.tree_edit.specs.Place.{put_in_block, leads_to_body}
+
+-- ---- faults
+
+abbrev pub is_compound : StmtKind-F StmtKind Arm Stmt → Bool
+is_compound (StmtKind-F.Compound stmts) = true
+is_compound _ = false
+
+abbrev pub is_without : Option ℕ → Bool
+is_without None = true
+is_without (Some n) = false
+
+-- a compound statement without a label, as the body of a block is
+abbrev pub can_be_body : Stmt → Bool
+can_be_body s = is_compound (out-StmtKind (out-Stmt s).kind) && is_without (out-Stmt s).label
+
+abbrev pub can_stand : List ℕ → Stmt → Block → Bool
+can_stand path s b = not (leads_to_body path b) || can_be_body s
+
+-- The program is level 1, and each item on a path stands one level below the one before. So a statement at the path stands on
+-- level 1 + length path, and the last level that it takes is this.
+abbrev pub last_level : List ℕ → Stmt → ℕ
+last_level path s = length path + stmt_depth s
+
+-- so many new names are needed, and 1,000,000 is the last there is
+abbrev pub are_spent : ℕ → ℕ → Bool
+are_spent next count = nat_lt 0 count && nat_lt 1000000 (next + count - 1)
+
+-- ---- a statement in the place of another
+
+abbrev pub with_stmt : List ℕ → Stmt × ℕ → Tree → Tree
+with_stmt path r t = record { ident = t.ident; files = t.files; block = put_in_block path r.0 t.block; next = r.1 }
+
+-- in the place at the path, where the old one stands: it keeps the name, and what is inside it is new
+abbrev pub replaced_stmt : Stmt → List ℕ → ℕ → Stmt → Tree → Result Tree EditFault
+replaced_stmt old path n s t =
+    if can_stand path s t.block then
+    (if nat_lt 64 (last_level path s) then Err TooDeep
+    else (if are_spent t.next (length (names_within s)) then Err NamesSpent
+    else Ok (with_stmt path (renamed (out-Stmt old).name.0 s t.next) t)))
+    else Err (WrongKind (name_of n))
+
+-- the item as a statement, if it is one
+abbrev pub stmt_of : ItemValue → Option Stmt
+stmt_of (OfStmt s) = Some s
+stmt_of _ = None
+
+abbrev pub replaced_at : Option Stmt → List ℕ → ℕ → Stmt → Tree → Result Tree EditFault
+replaced_at None path n s t = Err (WrongKind (name_of n))
+replaced_at (Some old) path n s t = replaced_stmt old path n s t
+
+abbrev pub replaced_found : Option (List ℕ) → ℕ → Stmt → Tree → Result Tree EditFault
+replaced_found None n s t = Err (NoSuchName (name_of n))
+replaced_found (Some path) n s t = replaced_at (option_and_then stmt_of (tree_at path t)) path n s t
+
+-- the program with the statement in the place of the one with this name, or the first fault
+unfoldable pub replaced_program : ℕ → Stmt → Tree → Result Tree EditFault
+replaced_program n s t = replaced_found (path_of n t) n s t
+
+-- ---- what an edit gives
+
+-- the edited program, or the fault; nothing is said of want of memory
+abbrev pub Gives : Result Tree EditFault → Result Tree EditFault → Type 0
+Gives (Ok t) outcome = outcome ≡ Ok t
+Gives (Err NoMemory) outcome = Unit {0}
+Gives (Err fault) outcome = outcome ≡ Err fault
+
+-- the same of an edit in place
+abbrev pub Edits : {A : Type 0} → Result A EditFault → Result Tree EditFault → Tree → Type 0
+Edits (Ok a) outcome new = outcome ≡ Ok new
+Edits (Err NoMemory) outcome new = Unit {0}
+Edits (Err fault) outcome new = outcome ≡ Err fault
+
+-- the rows of one statement have others in their place, and all other rows are as they were
+pub record IsEditedRows (t u : Tree) : Type 0 where
+  pub path : List ℕ
+  pub old : Stmt
+  pub new : Stmt
+  pub before : List Row
+  pub after : List Row
+  pub stood : tree_at path t ≡ Some (OfStmt old)
+  pub stands : tree_at path u ≡ Some (OfStmt new)
+  pub old_rows : program_rows t ≡ before ++ (stmt_rows old path ++ after)
+  pub new_rows : program_rows u ≡ before ++ (stmt_rows new path ++ after)

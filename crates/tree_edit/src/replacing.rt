@@ -1,0 +1,138 @@
+//! A statement in the place of another.
+ghost use Rattle.std.specs.Prelude.{◌≡◌, IfOk, OnErr, OnOk, Some, option_copied};
+ghost use Rattle.named_program.specs.Lookups.{item_value};
+ghost use Rattle.named_program.specs.Named.{IsNamed};
+ghost use Rattle.named_program.specs.Paths.{OfStmt, tree_at};
+ghost use Rattle.tree_names.specs.Names.{Counts, names_within, renamed};
+ghost use Rattle.program_tree.specs.declared.stmt.Stmt.{out-Stmt};
+ghost use Rattle.tree_edit.specs.Edited.{Edits, Gives, IsEditedRows, replaced_program, replaced_stmt, stmt_of, with_stmt};
+
+use crate::EditFault;
+use crate::blocks::put_block;
+use crate::checks::{are_spent, can_stand, is_too_deep};
+use crate::stmt_levels::stmt_depth;
+use dice_base::{Name, NoMemory};
+use named_program::{Item, Program};
+use program_tree::Stmt;
+use std::alloc::Global;
+use tree_copies::copy_texts;
+use tree_names::name_stmt;
+
+// The program with this statement in the place at the path, and with this next name.
+fn with_stmt(
+    alloc: Global,
+    program: &Program,
+    path: &[u32],
+    named: &Stmt,
+    next: u32,
+) -> Result<Program, NoMemory>
+    requires { IsNamed (with_stmt path.now (named.now, next) program.now) }
+    ensures { IfOk result (λ p. p ≡ with_stmt path.now (named.now, next) program.now) }
+{
+    let ident = program.ident().copy(alloc)?;
+    let files = copy_texts(alloc, program.files().as_slice())?;
+    let block = put_block(alloc, program.block(), path, named)?;
+    Program::new(alloc, ident, files, block, next)
+}
+
+// The same, where the statement bears the name of the old one at the path, and those inside it are new up to `next`.
+fn with_named(
+    alloc: Global,
+    program: &Program,
+    path: &[u32],
+    old: &Stmt,
+    named: &Stmt,
+    next: u32,
+) -> Result<Program, NoMemory>
+    requires place { tree_at path.now program.now ≡ Some (OfStmt old.now) }
+    requires name { (out-Stmt named.now).name.0 ≡ (out-Stmt old.now).name.0 }
+    requires counted { Counts program.now.next (names_within named.now) next }
+    ensures { IfOk result (λ p. p ≡ with_stmt path.now (named.now, next) program.now) }
+{
+    let _tree = program.tree();
+    with_stmt(alloc, program, path, named, next)
+}
+
+// The program with the statement in the place of the old one, which stands at the path.
+fn with_renamed(
+    alloc: Global,
+    program: &Program,
+    path: &[u32],
+    old: &Stmt,
+    stmt: &Stmt,
+) -> Result<Program, NoMemory>
+    requires { tree_at path.now program.now ≡ Some (OfStmt old.now) }
+    ensures { IfOk result (λ p. p ≡ with_stmt path.now (renamed (out-Stmt old.now).name.0 stmt.now program.now.next) program.now) }
+{
+    let (named, next) = name_stmt(alloc, old.name, stmt, program.next_name())?;
+    with_named(alloc, program, path, old, &named, next)
+}
+
+fn replaced_stmt(
+    alloc: Global,
+    program: &Program,
+    old: &Stmt,
+    path: &[u32],
+    name: Name,
+    stmt: &Stmt,
+) -> Result<Program, EditFault>
+    requires { tree_at path.now program.now ≡ Some (OfStmt old.now) }
+    ensures { Gives result (replaced_stmt old.now path.now name.0 stmt.now program.now) }
+{
+    if !can_stand(program.block(), path, stmt) {
+        return Err(EditFault::WrongKind(name));
+    }
+    if is_too_deep(path, stmt_depth(stmt)?) {
+        return Err(EditFault::TooDeep);
+    }
+    if are_spent(program.next_name(), stmt) {
+        return Err(EditFault::NamesSpent);
+    }
+    let program = with_renamed(alloc, program, path, old, stmt)?;
+    Ok(program)
+}
+
+fn stmt_of(item: Item<'_>) -> Option<&Stmt>
+    ensures { option_copied result ≡ stmt_of (item_value item.entry) }
+{
+    match item {
+        Item::OfStmt(stmt) => Some(stmt),
+        Item::OfProgram(_) => None,
+        Item::OfDecl(_) => None,
+        Item::OfRoutine(_) => None,
+    }
+}
+
+fn replaced(alloc: Global, program: &Program, name: Name, stmt: &Stmt) -> Result<Program, EditFault>
+    ensures { Gives result (replaced_program name.0 stmt.now program.now) }
+{
+    let Some(path) = program.path_of(name) else {
+        return Err(EditFault::NoSuchName(name));
+    };
+    let Some(item) = program.find(name) else {
+        return Err(EditFault::WrongKind(name));
+    };
+    let Some(old) = stmt_of(item) else {
+        return Err(EditFault::WrongKind(name));
+    };
+    replaced_stmt(alloc, program, old, path, name, stmt)
+}
+
+/// Puts a statement in the place of the one with this name. The name stays that of the statement there, and the items
+/// inside it get new names, in the order of the text. A refusal leaves the program as it was.
+pub fn replace(
+    alloc: Global,
+    program: &mut Program,
+    name: Name,
+    stmt: &Stmt,
+) -> Result<(), EditFault>
+    // The program is the edited one, or the fault is the first there is; only want of memory is free.
+    ensures value { Edits result (replaced_program name.0 stmt.now program.old) program.new }
+    ensures kept { OnErr result (program.new ≡ program.old) }
+    // The rows of one statement have others in their place, and all other rows are as they were.
+    ensures rows { OnOk result (IsEditedRows program.old program.new) }
+{
+    let edited = replaced(alloc, program, name, stmt)?;
+    *program = edited;
+    Ok(())
+}

@@ -1,0 +1,11 @@
+//! The names of the items of a program: they are given in the order of the text, and counted.
+#![tactic(auto)]
+
+mod counting;
+mod naming;
+
+pub use counting::new_names;
+pub use naming::{name_stmt, number_program};
+
+#[cfg(test)]
+mod tests;

@@ -1,0 +1,419 @@
+//! Names in text order.
+ghost use Rattle.std.specs.Prelude.{◌≡◌, ◌+◌, IfOk};
+ghost use Rattle.tree_names.specs.Naming as spec;
+ghost use Rattle.tree_names.specs.Names.{Counts, names_within, program_names, renamed};
+
+use dice_base::{Name, NoMemory, Text};
+use program_tree::{Access, Arg, Arm, Block, Decl, Expr, Program, Routine, Stmt, StmtKind};
+use sqlite_items::{Boxed, Items};
+use std::alloc::Global;
+use tree_copies::{
+    copy_access, copy_accesses, copy_args, copy_constants, copy_decl_kind, copy_expr, copy_heading,
+    copy_texts,
+};
+
+// Programs whose names pass 32 bits are refused like those for which there is no memory.
+fn after(name: u32) -> Result<u32, NoMemory>
+    ensures { IfOk result (λ n. n ≡ name + 1) }
+{
+    if name == u32::MAX {
+        return Err(NoMemory);
+    }
+    Ok(name + 1)
+}
+
+fn copy_assign(alloc: Global, access: &Access, value: &Expr) -> Result<StmtKind, NoMemory>
+    ensures { IfOk result (λ r. r ≡ StmtKind.Assign access.now value.now) }
+{
+    let access = copy_access(alloc, access)?;
+    let value = copy_expr(alloc, value)?;
+    Ok(StmtKind::Assign(access, value))
+}
+
+fn copy_call(alloc: Global, ident: &Text, args: &[Arg]) -> Result<StmtKind, NoMemory>
+    ensures { IfOk result (λ r. r ≡ StmtKind.Call ident.now args.now) }
+{
+    let ident = ident.copy(alloc)?;
+    let args = copy_args(alloc, args)?;
+    Ok(StmtKind::Call(ident, args))
+}
+
+fn make_for(
+    alloc: Global,
+    ident: &Text,
+    first: &Expr,
+    down: bool,
+    last: &Expr,
+    body: Boxed<Stmt>,
+) -> Result<StmtKind, NoMemory>
+    ensures { IfOk result (λ r. r ≡ StmtKind.For ident.now first.now down last.now body) }
+{
+    let ident = ident.copy(alloc)?;
+    let first = copy_expr(alloc, first)?;
+    let last = copy_expr(alloc, last)?;
+    Ok(StmtKind::For(ident, first, down, last, body))
+}
+
+#[cycle(number_stmt)]
+#[tactic(auto, unfolding(crate::specs::Naming::stmt_numbered, crate::specs::Naming::kind_numbered, crate::specs::Naming::arm_numbered))]
+fn number_compound(alloc: Global, stmts: &[Stmt], next: u32) -> Result<(StmtKind, u32), NoMemory>
+    ensures { IfOk result (λ r. r ≡ spec.kind_numbered (StmtKind.Compound stmts.now) next) }
+{
+    let (stmts, next) = number_stmts(alloc, stmts, next)?;
+    Ok((StmtKind::Compound(stmts), next))
+}
+
+#[cycle(number_stmt)]
+#[tactic(auto, unfolding(crate::specs::Naming::stmt_numbered, crate::specs::Naming::kind_numbered, crate::specs::Naming::arm_numbered))]
+fn number_case(
+    alloc: Global,
+    arms: &[Arm],
+    selector: &Expr,
+    next: u32,
+) -> Result<(StmtKind, u32), NoMemory>
+    ensures { IfOk result (λ r. r ≡ spec.kind_numbered (StmtKind.Case selector.now arms.now) next) }
+{
+    let (arms, next) = number_arms(alloc, arms, next)?;
+    let selector = copy_expr(alloc, selector)?;
+    Ok((StmtKind::Case(selector, arms), next))
+}
+
+#[cycle(number_stmt)]
+#[tactic(auto, unfolding(crate::specs::Naming::stmt_numbered, crate::specs::Naming::kind_numbered, crate::specs::Naming::arm_numbered))]
+fn number_while(
+    alloc: Global,
+    body: &Stmt,
+    test: &Expr,
+    next: u32,
+) -> Result<(StmtKind, u32), NoMemory>
+    ensures { IfOk result (λ r. r ≡ spec.kind_numbered (StmtKind.While test.now body.now) next) }
+{
+    let (body, next) = number_boxed(alloc, body, next)?;
+    let test = copy_expr(alloc, test)?;
+    Ok((StmtKind::While(test, body), next))
+}
+
+#[cycle(number_stmt)]
+#[tactic(auto, unfolding(crate::specs::Naming::stmt_numbered, crate::specs::Naming::kind_numbered, crate::specs::Naming::arm_numbered))]
+fn number_repeat(
+    alloc: Global,
+    stmts: &[Stmt],
+    test: &Expr,
+    next: u32,
+) -> Result<(StmtKind, u32), NoMemory>
+    ensures { IfOk result (λ r. r ≡ spec.kind_numbered (StmtKind.Repeat stmts.now test.now) next) }
+{
+    let (stmts, next) = number_stmts(alloc, stmts, next)?;
+    let test = copy_expr(alloc, test)?;
+    Ok((StmtKind::Repeat(stmts, test), next))
+}
+
+#[cycle(number_stmt)]
+#[tactic(auto, unfolding(crate::specs::Naming::stmt_numbered, crate::specs::Naming::kind_numbered, crate::specs::Naming::arm_numbered))]
+fn number_for(
+    alloc: Global,
+    body: &Stmt,
+    ident: &Text,
+    first: &Expr,
+    down: bool,
+    last: &Expr,
+    next: u32,
+) -> Result<(StmtKind, u32), NoMemory>
+    ensures { IfOk result (λ r. r ≡ spec.kind_numbered (StmtKind.For ident.now first.now down last.now body.now) next) }
+{
+    let (body, next) = number_boxed(alloc, body, next)?;
+    let kind = make_for(alloc, ident, first, down, last, body)?;
+    Ok((kind, next))
+}
+
+#[cycle(number_stmt)]
+#[tactic(auto, unfolding(crate::specs::Naming::stmt_numbered, crate::specs::Naming::kind_numbered, crate::specs::Naming::arm_numbered))]
+fn number_with(
+    alloc: Global,
+    body: &Stmt,
+    records: &[Access],
+    next: u32,
+) -> Result<(StmtKind, u32), NoMemory>
+    ensures { IfOk result (λ r. r ≡ spec.kind_numbered (StmtKind.With records.now body.now) next) }
+{
+    let (body, next) = number_boxed(alloc, body, next)?;
+    let records = copy_accesses(alloc, records)?;
+    Ok((StmtKind::With(records, body), next))
+}
+
+#[cycle(number_stmt)]
+#[tactic(auto, unfolding(crate::specs::Naming::stmt_numbered, crate::specs::Naming::kind_numbered, crate::specs::Naming::arm_numbered))]
+fn number_if(alloc: Global, yes: &Stmt, test: &Expr, next: u32) -> Result<(StmtKind, u32), NoMemory>
+    ensures { IfOk result (λ r. r ≡ spec.kind_numbered (StmtKind.If test.now yes.now None) next) }
+{
+    let (yes, next) = number_boxed(alloc, yes, next)?;
+    let test = copy_expr(alloc, test)?;
+    Ok((StmtKind::If(test, yes, None), next))
+}
+
+#[cycle(number_stmt)]
+fn number_stmts(alloc: Global, stmts: &[Stmt], next: u32) -> Result<(Items<Stmt>, u32), NoMemory>
+    ensures { IfOk result (λ r. r ≡ spec.stmts_numbered stmts.now next) }
+{
+    let mut all = Items::new(alloc);
+    let mut next = next;
+    for stmt in stmts {
+        let (stmt, last) = number_stmt(alloc, stmt, next)?;
+        all.push(stmt)?;
+        next = last;
+    }
+    Ok((all, next))
+}
+
+#[cycle(number_stmt)]
+#[tactic(auto, unfolding(crate::specs::Naming::stmt_numbered, crate::specs::Naming::kind_numbered, crate::specs::Naming::arm_numbered))]
+fn number_arm(alloc: Global, arm: &Arm, next: u32) -> Result<(Arm, u32), NoMemory>
+    ensures { IfOk result (λ r. r ≡ spec.arm_numbered arm.now next) }
+{
+    let constants = copy_constants(alloc, arm.constants.as_slice())?;
+    let (body, next) = number_stmt(alloc, &arm.body, next)?;
+    Ok((Arm { constants, body }, next))
+}
+
+#[cycle(number_stmt)]
+fn number_arms(alloc: Global, arms: &[Arm], next: u32) -> Result<(Items<Arm>, u32), NoMemory>
+    ensures { IfOk result (λ r. r ≡ spec.arms_numbered arms.now next) }
+{
+    let mut all = Items::new(alloc);
+    let mut next = next;
+    for arm in arms {
+        let (arm, last) = number_arm(alloc, arm, next)?;
+        all.push(arm)?;
+        next = last;
+    }
+    Ok((all, next))
+}
+
+#[cycle(number_stmt)]
+fn number_boxed(alloc: Global, stmt: &Stmt, next: u32) -> Result<(Boxed<Stmt>, u32), NoMemory>
+    ensures { IfOk result (λ r. r ≡ spec.stmt_numbered stmt.now next) }
+{
+    let (stmt, next) = number_stmt(alloc, stmt, next)?;
+    let stmt = Boxed::new(alloc, stmt)?;
+    Ok((stmt, next))
+}
+
+#[cycle(number_stmt)]
+#[tactic(auto, unfolding(crate::specs::Naming::stmt_numbered, crate::specs::Naming::kind_numbered, crate::specs::Naming::arm_numbered))]
+fn number_stmt(alloc: Global, stmt: &Stmt, next: u32) -> Result<(Stmt, u32), NoMemory>
+    ensures { IfOk result (λ r. r ≡ spec.stmt_numbered stmt.now next) }
+{
+    let label = stmt.label;
+    let inner = after(next)?;
+    let (kind, last) = number_kind(alloc, &stmt.kind, inner)?;
+    let stmt = Stmt {
+        name: Name(next),
+        label,
+        kind,
+    };
+    Ok((stmt, last))
+}
+
+#[cycle(number_stmt)]
+#[tactic(auto, unfolding(crate::specs::Naming::stmt_numbered, crate::specs::Naming::kind_numbered, crate::specs::Naming::arm_numbered))]
+fn number_kind(alloc: Global, kind: &StmtKind, next: u32) -> Result<(StmtKind, u32), NoMemory>
+    ensures { IfOk result (λ r. r ≡ spec.kind_numbered kind.now next) }
+{
+    match kind {
+        StmtKind::Empty => Ok((StmtKind::Empty, next)),
+        StmtKind::Assign(access, value) => {
+            let kind = copy_assign(alloc, access, value)?;
+            Ok((kind, next))
+        }
+        StmtKind::Call(ident, args) => {
+            let kind = copy_call(alloc, ident, args.as_slice())?;
+            Ok((kind, next))
+        }
+        StmtKind::Goto(label) => Ok((StmtKind::Goto(*label), next)),
+        StmtKind::Compound(stmts) => number_compound(alloc, stmts.as_slice(), next),
+        StmtKind::If(test, yes, None) => number_if(alloc, yes.get(), test, next),
+        StmtKind::If(test, yes, Some(no)) => {
+            let (yes, next) = number_boxed(alloc, yes.get(), next)?;
+            let (no, next) = number_boxed(alloc, no.get(), next)?;
+            let test = copy_expr(alloc, test)?;
+            Ok((StmtKind::If(test, yes, Some(no)), next))
+        }
+        StmtKind::Case(selector, arms) => number_case(alloc, arms.as_slice(), selector, next),
+        StmtKind::While(test, body) => number_while(alloc, body.get(), test, next),
+        StmtKind::Repeat(stmts, test) => number_repeat(alloc, stmts.as_slice(), test, next),
+        StmtKind::For(ident, first, down, last, body) => {
+            number_for(alloc, body.get(), ident, first, *down, last, next)
+        }
+        StmtKind::With(records, body) => number_with(alloc, body.get(), records.as_slice(), next),
+    }
+}
+
+fn number_decl(alloc: Global, decl: &Decl, next: u32) -> Result<(Decl, u32), NoMemory>
+    ensures { IfOk result (λ r. r ≡ spec.decl_numbered decl.now next) }
+{
+    let last = after(next)?;
+    let kind = copy_decl_kind(alloc, &decl.kind)?;
+    let decl = Decl {
+        name: Name(next),
+        kind,
+    };
+    Ok((decl, last))
+}
+
+fn number_decls(alloc: Global, decls: &[Decl], next: u32) -> Result<(Items<Decl>, u32), NoMemory>
+    ensures { IfOk result (λ r. r ≡ spec.decls_numbered decls.now next) }
+{
+    let mut all = Items::new(alloc);
+    let mut next = next;
+    for decl in decls {
+        let (decl, last) = number_decl(alloc, decl, next)?;
+        all.push(decl)?;
+        next = last;
+    }
+    Ok((all, next))
+}
+
+fn number_labels(
+    alloc: Global,
+    labels: &Option<Decl>,
+    next: u32,
+) -> Result<(Option<Decl>, u32), NoMemory>
+    ensures { IfOk result (λ r. r ≡ spec.labels_numbered labels.now next) }
+{
+    match labels {
+        None => Ok((None, next)),
+        Some(labels) => {
+            let (labels, next) = number_decl(alloc, labels, next)?;
+            Ok((Some(labels), next))
+        }
+    }
+}
+
+// The number behind the names of the labels.
+fn after_labels(labels: &Option<Decl>, next: u32) -> Result<u32, NoMemory>
+    ensures { IfOk result (λ n. n ≡ (spec.labels_numbered labels.now next).1) }
+{
+    match labels {
+        None => Ok(next),
+        Some(_) => after(next),
+    }
+}
+
+// The labels and the body of a block, with its other parts.
+fn number_ends(
+    alloc: Global,
+    block: &Block,
+    next: u32,
+    last: u32,
+    consts: Items<Decl>,
+    types: Items<Decl>,
+    vars: Items<Decl>,
+    routines: Items<Routine>,
+) -> Result<(Block, u32), NoMemory>
+    ensures { IfOk result (λ r. r ≡ spec.with_ends block.now next last consts types vars routines) }
+{
+    let (body, last) = number_stmt(alloc, &block.body, last)?;
+    let (labels, _) = number_labels(alloc, &block.labels, next)?;
+    let block = Block {
+        labels,
+        consts,
+        types,
+        vars,
+        routines,
+        body,
+    };
+    Ok((block, last))
+}
+
+#[cycle(number_block)]
+#[tactic(auto, unfolding(crate::specs::Naming::block_numbered, crate::specs::Naming::routine_numbered))]
+fn number_block(alloc: Global, block: &Block, next: u32) -> Result<(Block, u32), NoMemory>
+    ensures { IfOk result (λ r. r ≡ spec.block_numbered block.now next) }
+{
+    let first = after_labels(&block.labels, next)?;
+    let (consts, last) = number_decls(alloc, block.consts.as_slice(), first)?;
+    let (types, last) = number_decls(alloc, block.types.as_slice(), last)?;
+    let (vars, last) = number_decls(alloc, block.vars.as_slice(), last)?;
+    let (routines, last) = number_routines(alloc, block.routines.as_slice(), last)?;
+    number_ends(alloc, block, next, last, consts, types, vars, routines)
+}
+
+#[cycle(number_block)]
+#[tactic(auto, unfolding(crate::specs::Naming::block_numbered, crate::specs::Naming::routine_numbered))]
+fn number_routine(alloc: Global, routine: &Routine, next: u32) -> Result<(Routine, u32), NoMemory>
+    ensures { IfOk result (λ r. r ≡ spec.routine_numbered routine.now next) }
+{
+    let name = Name(next);
+    let next = after(next)?;
+    let heading = copy_heading(alloc, &routine.heading)?;
+    match &routine.block {
+        None => Ok((
+            Routine {
+                name,
+                heading,
+                block: None,
+            },
+            next,
+        )),
+        Some(block) => {
+            let (block, next) = number_block(alloc, block, next)?;
+            Ok((
+                Routine {
+                    name,
+                    heading,
+                    block: Some(block),
+                },
+                next,
+            ))
+        }
+    }
+}
+
+#[cycle(number_block)]
+fn number_routines(
+    alloc: Global,
+    routines: &[Routine],
+    next: u32,
+) -> Result<(Items<Routine>, u32), NoMemory>
+    ensures { IfOk result (λ r. r ≡ spec.routines_numbered routines.now next) }
+{
+    let mut all = Items::new(alloc);
+    let mut next = next;
+    for routine in routines {
+        let (routine, last) = number_routine(alloc, routine, next)?;
+        all.push(routine)?;
+        next = last;
+    }
+    Ok((all, next))
+}
+
+/// A copy of a statement that bears this name, and whose parts bear the names from `next` on, in text order; and the
+/// number behind them.
+pub fn name_stmt(alloc: Global, name: Name, stmt: &Stmt, next: u32) -> Result<(Stmt, u32), NoMemory>
+    ensures value { IfOk result (λ r. r ≡ renamed name.0 stmt.now next) }
+    ensures names { IfOk result (λ r. Counts next (names_within r.0) r.1) }
+{
+    let (kind, last) = number_kind(alloc, &stmt.kind, next)?;
+    let stmt = Stmt {
+        name,
+        label: stmt.label,
+        kind,
+    };
+    Ok((stmt, last))
+}
+
+/// A copy of a program whose items bear the names from 1 on, in text order.
+pub fn number_program(alloc: Global, program: &Program) -> Result<Program, NoMemory>
+    ensures value { IfOk result (λ p. p ≡ spec.numbered program.now) }
+    ensures names { IfOk result (λ p. Counts 1 (program_names p) p.next) }
+{
+    let ident = program.ident.copy(alloc)?;
+    let files = copy_texts(alloc, program.files.as_slice())?;
+    let (block, next) = number_block(alloc, &program.block, 2)?;
+    Ok(Program {
+        ident,
+        files,
+        block,
+        next,
+    })
+}

@@ -1,0 +1,15 @@
+use Rattle.std.proofs.Common.{◌≡◌, [], ◌∷◌, ◌++◌, drop, map}
+use Rattle.tree_text.specs.Joined.{joined}
+use Rattle.tree_text.specs.Symbols.{comma_sign, semicolon_sign}
+use Rattle.tree_text.specs.Expressions.{listed}
+use Rattle.tree_text.specs.Declarations.{type_tokens, field_tokens}
+use Rattle.tree_text.proofs.Rest.{still}
+use Rattle.tree_text.proofs.declarations.+push_type.Given as goal
+
+abbrev pub invariant-push_types-loop-shape : goal.invariant-push_types-loop-shape
+invariant-push_types-loop-shape l =
+    l.out.items ++ still comma_sign type_tokens l.first (drop l.shape-index l.shapes) ≡ l.fn.out.items ++ listed (map type_tokens l.shapes)
+
+abbrev pub invariant-push_fields-loop-field : goal.invariant-push_fields-loop-field
+invariant-push_fields-loop-field l =
+    l.out.items ++ still semicolon_sign field_tokens l.first (drop l.field-index l.fields) ≡ l.fn.out.items ++ joined (semicolon_sign ∷ []) (map field_tokens l.fields)

@@ -1,0 +1,10 @@
+use Rattle.std.proofs.Common.{◌≡◌, ◌++◌, drop, map}
+use Rattle.tree_text.specs.Symbols.{comma_sign}
+use Rattle.tree_text.specs.Expressions.{listed}
+use Rattle.tree_text.specs.Declarations.{number_tokens}
+use Rattle.tree_text.proofs.Rest.{still}
+use Rattle.tree_text.proofs.declarations.push_labels.Given as goal
+
+abbrev pub invariant-loop-label : goal.invariant-loop-label
+invariant-loop-label l =
+    l.out.items ++ still comma_sign number_tokens l.first (drop l.label-index l.labels) ≡ l.fn.out.items ++ listed (map number_tokens l.labels)

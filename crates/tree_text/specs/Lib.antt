@@ -1,0 +1,5 @@
+pub mod Declarations
+pub mod Expressions
+pub mod Joined
+pub mod Spelling
+pub mod Symbols
