@@ -1,9 +1,9 @@
 -- Fronts of a text, and tests of all its bytes, step by step.
-use Rattle.std.proofs.Common.{◌≡◌, ℕ, zero, suc, ◌+◌, ◌-◌, ◌*◌, ◌≤◌, ◌<◌, Bool, true, false, ◌&&◌, cond, List, [], ◌∷◌, ◌++◌, length, get_or, take, drop, drop-cons, length-drop, take_all, None, Some, leb, leb-true, refl, sym, ap, ◌∙◌, arith, add-one}
+use Rattle.std.proofs.Common.{◌≡◌, ℕ, zero, suc, ◌+◌, ◌-◌, ◌*◌, ◌≤◌, ◌<◌, Bool, true, false, ◌&&◌, cond, List, [], ◌∷◌, length, get_or, take, drop, drop-cons, length-drop, take_all, None, Some, leb, leb-true, refl, ap, ◌∙◌, arith, add-one}
 use Rattle.std.specs.declared.option.Option.{Option}
 use Rattle.dice_base.specs.Lexemes.{value_from, value_of}
 use Rattle.pascal_scanner.specs.Longest.{front, past}
-use Rattle.dice_command.specs.Words.{every, is_empty}
+use Rattle.dice_command.specs.Words.{every}
 
 pub front-step : (p : ℕ → Bool) (s : List ℕ) (i : ℕ) → i < length s → p (get_or s i 0) ≡ true → length (front p (drop i s)) ≡ 1 + length (front p (drop (i + 1) s))
 front-step p s i h e =

@@ -1,31 +1,66 @@
 -- Which command a line is.
-use Rattle.std.specs.Prelude.{ℕ, ◌≤◌, Bool, true, ◌&&◌, ◌||◌, not, nat_lt, if◌then◌else◌, List, length, bytes_eq, codes, Option, None, Some}
-use Rattle.dice_command.specs.Words.{is_text_byte, every, is_empty, word_of, after_word, number_of, is_identifier}
+use Rattle.std.specs.Prelude.{ℕ, ◌≤◌, Bool, true, ◌&&◌, ◌||◌, nat_lt, if◌then◌else◌, List, length, bytes_eq, codes, Option, None, Some}
+use Rattle.pascal_scanner.specs.Longest.{past}
+use Rattle.dice_command.specs.Words.{is_blank, is_text_byte, every, is_empty, word_of, after_word, number_of, is_identifier}
 use Rattle.dice_command.specs.declared.keyword.Arguments.{Arguments}
 use Rattle.dice_command.specs.declared.keyword.Arguments.TheVariants.{Nothing, Number, Text, Side, Identifier}
 use Rattle.dice_command.specs.declared.keyword.Keyword.{Keyword}
 use Rattle.dice_command.specs.declared.keyword.Keyword.TheVariants as keyword
 use Rattle.dice_command.specs.Keyword.{keyword_of}
+use Rattle.dice_command.specs.declared.command.CommandFault.{CommandFault}
 use Rattle.dice_command.specs.declared.command.CommandFault.TheVariants.{LineTooLong, NotACommand, BadNumber}
 use Rattle.dice_command.specs.declared.command.LineCommand.{LineCommand}
-use Rattle.dice_command.specs.declared.command.LineCommand.TheVariants.{Blank, Load, Run, Quit, Unbuilt, Bad}
+use Rattle.dice_command.specs.declared.command.LineCommand.TheVariants as line
 
--- numbers are in range
-abbrev pub IsWellRead : LineCommand → Type 0
+-- what a line asks for
+pub data Asked : Type 0 where
+  Blank : Asked
+  Load : Asked
+  Listing : Asked
+  Replace : ℕ → List ℕ → Asked
+  Apply : Asked
+  Run : ℕ → Asked
+  Quit : Asked
+  Unbuilt : Asked
+  Bad : CommandFault → Asked
+
+-- the same of the answer of the code
+abbrev pub asked : LineCommand → Asked
+asked line.Blank = Blank
+asked line.Load = Load
+asked line.List = Listing
+asked (line.Replace n text) = Replace n text.now
+asked line.Apply = Apply
+asked (line.Run n) = Run n
+asked line.Quit = Quit
+asked line.Unbuilt = Unbuilt
+asked (line.Bad fault) = Bad fault
+
+-- numbers are in range, and a text is no longer than a line
+abbrev pub IsWellRead : Asked → Type 0
+IsWellRead (Replace n text) = (1 ≤ n) × (n ≤ 1000000) × (length text ≤ 4096)
 IsWellRead (Run n) = (1 ≤ n) × (n ≤ 1000000)
 IsWellRead other = Unit {0}
 
 -- a command of one word
-abbrev pub alone : LineCommand → List ℕ → LineCommand
+abbrev pub alone : Asked → List ℕ → Asked
 alone command rest = if is_empty (word_of rest) then command else Bad NotACommand
 
-abbrev pub numbered : Option ℕ → LineCommand
-numbered None = Bad BadNumber
-numbered (Some n) = Run n
+abbrev pub numbered : (ℕ → Asked) → Option ℕ → Asked
+numbered command None = Bad BadNumber
+numbered command (Some n) = command n
 
 -- a run is told one number, and no more words
-abbrev pub one_number : List ℕ → LineCommand
-one_number rest = if is_empty (word_of (after_word rest)) then numbered (number_of (word_of rest)) else Bad NotACommand
+abbrev pub one_number : List ℕ → Asked
+one_number rest = if is_empty (word_of (after_word rest)) then numbered Run (number_of (word_of rest)) else Bad NotACommand
+
+-- what stands behind the first word and the blanks behind it, with the blanks at the end of the line
+abbrev pub text_of : List ℕ → List ℕ
+text_of rest = past is_blank (after_word rest)
+
+-- a statement is replaced by a text, which may be empty
+abbrev pub number_and_text : List ℕ → Asked
+number_and_text rest = numbered (λ n. Replace n (text_of rest)) (number_of (word_of rest))
 
 abbrev pub is_side : List ℕ → Bool
 is_side word = bytes_eq word (codes "before") || (bytes_eq word (codes "after") || bytes_eq word (codes "first"))
@@ -38,18 +73,21 @@ fits Text rest = true
 fits Side rest = is_side (word_of rest)
 fits Identifier rest = is_identifier (word_of rest) && is_empty (word_of (after_word (after_word rest)))
 
-abbrev pub by_keyword : Keyword → List ℕ → LineCommand
+abbrev pub by_keyword : Keyword → List ℕ → Asked
 by_keyword keyword.Load rest = alone Load rest
+by_keyword keyword.List rest = alone Listing rest
+by_keyword keyword.Replace rest = number_and_text rest
+by_keyword keyword.Apply rest = alone Apply rest
 by_keyword keyword.Run rest = one_number rest
 by_keyword keyword.Quit rest = alone Quit rest
 by_keyword (keyword.Unbuilt arguments) rest = if fits arguments rest then Unbuilt else Bad NotACommand
 
-abbrev pub with_arguments : Option Keyword → List ℕ → LineCommand
+abbrev pub with_arguments : Option Keyword → List ℕ → Asked
 with_arguments None rest = Bad NotACommand
 with_arguments (Some keyword) rest = by_keyword keyword rest
 
 -- the command of a line, tried in this order
-abbrev pub command_of : List ℕ → LineCommand
+abbrev pub command_of : List ℕ → Asked
 command_of line =
     if nat_lt 4096 (length line) then Bad LineTooLong
     else if is_empty (word_of line) then Blank

@@ -3,11 +3,11 @@ use Rattle.std.specs.Prelude.{ℕ, Bool, ◌||◌, if◌then◌else◌, List, by
 use Rattle.std.specs.declared.option.Option.{Option}
 use Rattle.dice_command.specs.declared.keyword.Arguments.TheVariants.{Nothing, Number, Text, Side, Identifier}
 use Rattle.dice_command.specs.declared.keyword.Keyword.{Keyword}
-use Rattle.dice_command.specs.declared.keyword.Keyword.TheVariants.{Load, Run, Quit, Unbuilt}
+use Rattle.dice_command.specs.declared.keyword.Keyword.TheVariants as keyword
 
 unfoldable pub takes_nothing : List ℕ → Bool
 takes_nothing word =
-    bytes_eq word (codes "list") || (bytes_eq word (codes "apply") || (bytes_eq word (codes "discard") || (bytes_eq word (codes "where") || (bytes_eq word (codes "room") || (bytes_eq word (codes "restart") || (bytes_eq word (codes "resume")))))))
+    bytes_eq word (codes "discard") || (bytes_eq word (codes "where") || (bytes_eq word (codes "room") || (bytes_eq word (codes "restart") || (bytes_eq word (codes "resume")))))
 
 unfoldable pub takes_number : List ℕ → Bool
 takes_number word =
@@ -15,21 +15,24 @@ takes_number word =
 
 unfoldable pub takes_text : List ℕ → Bool
 takes_text word =
-    bytes_eq word (codes "replace") || (bytes_eq word (codes "head") || (bytes_eq word (codes "declare") || (bytes_eq word (codes "redeclare") || (bytes_eq word (codes "routine") || (bytes_eq word (codes "heading") || (bytes_eq word (codes "feed")))))))
+    bytes_eq word (codes "head") || (bytes_eq word (codes "declare") || (bytes_eq word (codes "redeclare") || (bytes_eq word (codes "routine") || (bytes_eq word (codes "heading") || (bytes_eq word (codes "feed"))))))
 
 abbrev pub unbuilt_keyword : List ℕ → Option Keyword
 unbuilt_keyword word =
-    if takes_nothing word then Some (Unbuilt Nothing)
-    else if takes_number word then Some (Unbuilt Number)
-    else if takes_text word then Some (Unbuilt Text)
-    else if bytes_eq word (codes "insert") then Some (Unbuilt Side)
-    else if bytes_eq word (codes "show") then Some (Unbuilt Identifier)
+    if takes_nothing word then Some (keyword.Unbuilt Nothing)
+    else if takes_number word then Some (keyword.Unbuilt Number)
+    else if takes_text word then Some (keyword.Unbuilt Text)
+    else if bytes_eq word (codes "insert") then Some (keyword.Unbuilt Side)
+    else if bytes_eq word (codes "show") then Some (keyword.Unbuilt Identifier)
     else None
 
 -- what a first word asks for
 unfoldable pub keyword_of : List ℕ → Option Keyword
 keyword_of word =
-    if bytes_eq word (codes "load") then Some Load
-    else if bytes_eq word (codes "run") then Some Run
-    else if bytes_eq word (codes "quit") then Some Quit
+    if bytes_eq word (codes "load") then Some keyword.Load
+    else if bytes_eq word (codes "list") then Some keyword.List
+    else if bytes_eq word (codes "replace") then Some keyword.Replace
+    else if bytes_eq word (codes "apply") then Some keyword.Apply
+    else if bytes_eq word (codes "run") then Some keyword.Run
+    else if bytes_eq word (codes "quit") then Some keyword.Quit
     else unbuilt_keyword word

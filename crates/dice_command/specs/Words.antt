@@ -1,5 +1,5 @@
 -- The words of a line. Bytes are those of ASCII.
-use Rattle.std.specs.Prelude.{ℕ, ◌+◌, Bool, true, false, not, ◌&&◌, ◌||◌, ◌==◌, nat_le, if◌then◌else◌, List, [], ◌∷◌, None, Some}
+use Rattle.std.specs.Prelude.{ℕ, Bool, true, false, not, ◌&&◌, ◌||◌, ◌==◌, nat_le, if◌then◌else◌, List, [], ◌∷◌, None, Some}
 use Rattle.std.specs.declared.option.Option.{Option}
 use Rattle.dice_base.specs.Lexemes.{class, is_letter, digit_byte, word_byte, value_of}
 use Rattle.pascal_scanner.specs.Longest.{front, past}

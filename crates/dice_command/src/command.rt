@@ -1,9 +1,9 @@
 //! Commands.
-ghost use Rattle.std.specs.Prelude.{◌≡◌};
-ghost use Rattle.dice_command.specs.Command.{command_of, by_keyword, alone, one_number, fits, is_side, IsWellRead};
+ghost use Rattle.std.specs.Prelude.{◌≡◌, ◌≤◌, length};
+ghost use Rattle.dice_command.specs.Command.{asked, command_of, by_keyword, alone, one_number, number_and_text, fits, is_side, IsWellRead};
 
 use crate::keyword::{Arguments, Keyword, keyword_of};
-use crate::words::{after_word, is_identifier, is_text, number_of, word_of};
+use crate::words::{after_word, is_identifier, is_text, number_of, past_blanks, word_of};
 
 /// A line of more bytes is no command.
 const LONGEST_LINE: usize = 4096;
@@ -22,11 +22,18 @@ pub enum CommandFault {
 
 /// What a line asks for.
 #[derive(Clone, Copy, Debug, PartialEq, Eq)]
-pub enum LineCommand {
+pub enum LineCommand<'a> {
     /// Nothing: the line is empty, or all of it is spaces and tabs.
     Blank,
     /// To load the program whose text stands in the lines that follow, up to a line `.`.
     Load,
+    /// To list the program.
+    List,
+    /// To replace the statement of this name, 1 to 1,000,000, by a text, which may be empty. Blanks at the end of the
+    /// line belong to the text.
+    Replace(u32, &'a [u8]),
+    /// To put the edits into force.
+    Apply,
     /// To run over so many gates, 1 to 1,000,000.
     Run(u32),
     /// To end the script.
@@ -38,9 +45,9 @@ pub enum LineCommand {
 }
 
 /// The command of a line, without the line's end.
-pub fn parse_command(line: &[u8]) -> LineCommand
-    ensures command { result ≡ command_of line.now }
-    ensures well_read { IsWellRead result }
+pub fn parse_command(line: &[u8]) -> LineCommand<'_>
+    ensures command { asked result ≡ command_of line.now }
+    ensures well_read { IsWellRead (asked result) }
 {
     if line.len() > LONGEST_LINE {
         return LineCommand::Bad(CommandFault::LineTooLong);
@@ -59,22 +66,26 @@ pub fn parse_command(line: &[u8]) -> LineCommand
     }
 }
 
-fn with_arguments(keyword: Keyword, rest: &[u8]) -> LineCommand
-    ensures command { result ≡ by_keyword keyword rest.now }
-    ensures well_read { IsWellRead result }
+fn with_arguments(keyword: Keyword, rest: &[u8]) -> LineCommand<'_>
+    requires { length rest.now ≤ 4096 }
+    ensures command { asked result ≡ by_keyword keyword rest.now }
+    ensures well_read { IsWellRead (asked result) }
 {
     match keyword {
         Keyword::Load => alone(LineCommand::Load, rest),
-        Keyword::Quit => alone(LineCommand::Quit, rest),
+        Keyword::List => alone(LineCommand::List, rest),
+        Keyword::Replace => replace(rest),
+        Keyword::Apply => alone(LineCommand::Apply, rest),
         Keyword::Run => run(rest),
+        Keyword::Quit => alone(LineCommand::Quit, rest),
         Keyword::Unbuilt(arguments) if fits(arguments, rest) => LineCommand::Unbuilt,
         Keyword::Unbuilt(_) => LineCommand::Bad(CommandFault::NotACommand),
     }
 }
 
-fn alone(command: LineCommand, rest: &[u8]) -> LineCommand
-    ensures command { result ≡ alone command rest.now }
-    ensures well_read { IsWellRead command → IsWellRead result }
+fn alone<'a>(command: LineCommand<'a>, rest: &[u8]) -> LineCommand<'a>
+    ensures command { asked result ≡ alone (asked command.entry) rest.now }
+    ensures well_read { IsWellRead (asked command.entry) → IsWellRead (asked result) }
 {
     if word_of(rest).is_empty() {
         command
@@ -83,15 +94,26 @@ fn alone(command: LineCommand, rest: &[u8]) -> LineCommand
     }
 }
 
-fn run(rest: &[u8]) -> LineCommand
-    ensures command { result ≡ one_number rest.now }
-    ensures well_read { IsWellRead result }
+fn run(rest: &[u8]) -> LineCommand<'_>
+    ensures command { asked result ≡ one_number rest.now }
+    ensures well_read { IsWellRead (asked result) }
 {
     if !word_of(after_word(rest)).is_empty() {
         return LineCommand::Bad(CommandFault::NotACommand);
     }
     match number_of(word_of(rest)) {
         Some(gates) => LineCommand::Run(gates),
+        None => LineCommand::Bad(CommandFault::BadNumber),
+    }
+}
+
+fn replace(rest: &[u8]) -> LineCommand<'_>
+    requires { length rest.now ≤ 4096 }
+    ensures command { asked result ≡ number_and_text rest.now }
+    ensures well_read { IsWellRead (asked result) }
+{
+    match number_of(word_of(rest)) {
+        Some(name) => LineCommand::Replace(name, past_blanks(after_word(rest))),
         None => LineCommand::Bad(CommandFault::BadNumber),
     }
 }

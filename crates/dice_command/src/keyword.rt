@@ -21,6 +21,9 @@ pub enum Arguments {
 #[derive(Clone, Copy, Debug, PartialEq, Eq)]
 pub enum Keyword {
     Load,
+    List,
+    Replace,
+    Apply,
     Run,
     Quit,
     /// A command that is not built yet.
@@ -34,6 +37,12 @@ pub(crate) fn keyword_of(word: &[u8]) -> Option<Keyword>
 {
     if word == b"load".as_slice() {
         Some(Keyword::Load)
+    } else if word == b"list".as_slice() {
+        Some(Keyword::List)
+    } else if word == b"replace".as_slice() {
+        Some(Keyword::Replace)
+    } else if word == b"apply".as_slice() {
+        Some(Keyword::Apply)
     } else if word == b"run".as_slice() {
         Some(Keyword::Run)
     } else if word == b"quit".as_slice() {
@@ -66,9 +75,7 @@ fn unbuilt_keyword(word: &[u8]) -> Option<Keyword>
 fn takes_nothing(word: &[u8]) -> bool
     ensures { result ≡ takes_nothing word.now }
 {
-    word == b"list".as_slice()
-        || word == b"apply".as_slice()
-        || word == b"discard".as_slice()
+    word == b"discard".as_slice()
         || word == b"where".as_slice()
         || word == b"room".as_slice()
         || word == b"restart".as_slice()
@@ -93,8 +100,7 @@ fn takes_number(word: &[u8]) -> bool
 fn takes_text(word: &[u8]) -> bool
     ensures { result ≡ takes_text word.now }
 {
-    word == b"replace".as_slice()
-        || word == b"head".as_slice()
+    word == b"head".as_slice()
         || word == b"declare".as_slice()
         || word == b"redeclare".as_slice()
         || word == b"routine".as_slice()

@@ -8,6 +8,17 @@ fn lines_are_commands(rt: HostRuntime) {
         (b" \t ", LineCommand::Blank),
         (b"load", LineCommand::Load),
         (b"\tload ", LineCommand::Load),
+        (b"list", LineCommand::List),
+        (
+            b"replace 5 begin end",
+            LineCommand::Replace(5, b"begin end"),
+        ),
+        (
+            b" replace\t7 \t x := 1 ",
+            LineCommand::Replace(7, b"x := 1 "),
+        ),
+        (b"replace 5", LineCommand::Replace(5, b"")),
+        (b"apply", LineCommand::Apply),
         (b"quit", LineCommand::Quit),
         (b"run 1", LineCommand::Run(1)),
         (b"  run\t0001000000 ", LineCommand::Run(1_000_000)),
@@ -25,6 +36,8 @@ fn lines_are_refused(rt: HostRuntime) {
         (b"jump".as_slice(), bad),
         (b"Load", bad),
         (b"load x", bad),
+        (b"list x", bad),
+        (b"apply now", bad),
         (b"quit 1", bad),
         (b"run 1 2", bad),
         (b"run a b", bad),
@@ -35,6 +48,9 @@ fn lines_are_refused(rt: HostRuntime) {
         (b"run 00000000000000000001000001", number),
         (b"run -1", number),
         (b"run 1x", number),
+        (b"replace", number),
+        (b"replace x y", number),
+        (b"replace 0 x", number),
     ];
     for (line, command) in cases {
         assert_eq!(rt; parse_command(line), command);
@@ -45,12 +61,11 @@ fn lines_are_refused(rt: HostRuntime) {
 fn commands_to_come(rt: HostRuntime) {
     let bad = LineCommand::Bad(CommandFault::NotACommand);
     let cases = [
-        (b"list".as_slice(), LineCommand::Unbuilt),
-        (b"apply", LineCommand::Unbuilt),
-        (b"apply now", bad),
+        (b"discard".as_slice(), LineCommand::Unbuilt),
+        (b"discard now", bad),
         (b"break x", LineCommand::Unbuilt),
         (b"break 1 2", bad),
-        (b"replace", LineCommand::Unbuilt),
+        (b"head", LineCommand::Unbuilt),
         (b"insert after x", LineCommand::Unbuilt),
         (b"insert beside 3", bad),
         (b"show i 3", LineCommand::Unbuilt),

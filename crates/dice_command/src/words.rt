@@ -67,8 +67,10 @@ fn solid_len(text: &[u8]) -> usize
     text.len()
 }
 
-fn past_blanks(text: &[u8]) -> &[u8]
-    ensures { result.now ≡ past is_blank text.now }
+/// What stands behind the blanks at the front.
+pub(crate) fn past_blanks(text: &[u8]) -> &[u8]
+    ensures value { result.now ≡ past is_blank text.now }
+    ensures within { length result.now ≤ length text.now }
 {
     &text[blanks_len(text)..]
 }
@@ -83,7 +85,8 @@ pub(crate) fn word_of(text: &[u8]) -> &[u8]
 
 /// What stands behind the first word.
 pub(crate) fn after_word(text: &[u8]) -> &[u8]
-    ensures { result.now ≡ after_word text.now }
+    ensures value { result.now ≡ after_word text.now }
+    ensures within { length result.now ≤ length text.now }
 {
     let text = past_blanks(text);
     &text[solid_len(text)..]

@@ -44,7 +44,7 @@ fn run_of(
     Ok((status, Text::from_slice(alloc, sink.bytes())?))
 }
 
-const RUNS: [(&str, &str); 22] = [
+const RUNS: [(&str, &str); 24] = [
     ("", ""),
     ("\n \t\n\r\n", ""),
     (SUM, "loaded 4 blocks 188 words\noutput 3\n42\nended\n"),
@@ -77,11 +77,24 @@ const RUNS: [(&str, &str); 22] = [
     ),
     // No program.
     ("run 1\n", "no program\n"),
-    ("apply\nresume\nlist\n", "not built\nnot built\nnot built\n"),
+    (
+        "apply\nresume\nlist\nreplace 4 writeln(1)\nreplace 4 x := 1\n",
+        "no program\nnot built\nno program\nno program\nnot built\n",
+    ),
+    // An edit, and the program as it then is.
+    (
+        "load\nprogram m; var i, s: integer; begin i := 2; s := i + 40; writeln(s:1) end.\n.\nreplace 5 begin s := i + 1; end\nlist\napply\nrun 2\nrun 9\nrun 9\n",
+        "loaded 4 blocks 188 words\nedited 5\n     1 program m ;\n       var\n     2   i , s : integer ;\n     3   begin\n     4     i := 2 ;\n     5     begin\n     7       s := i + 1 ;\n     8\n           end ;\n     6     writeln ( s : 1 )\n         end .\nloaded 5 blocks 196 words\nstopped at 8\noutput 2\n3\nended\nalready ended\n",
+    ),
+    // Edits that are refused, and a draft that waits while the program is stopped.
+    (
+        "load\nprogram m; var i, s: integer; begin i := 2; s := i + 40; writeln(s:1) end.\n.\nreplace 3 i := 0\nreplace 99 i := 0\nrun 1\napply\nrun 9\nreplace 2 i := 0\nreplace 1 begin end\nreplace 5 k := 1\nreplace 4\napply\nrun 1\n",
+        "loaded 4 blocks 188 words\nwrong kind 3\nno such name 99\nstopped at 5\nnot built\noutput 3\n42\nended\nwrong kind 2\nwrong kind 1\nnot built\nedited 4\nloaded 4 blocks 160 words\nstopped at 5\n",
+    ),
     // Lines that are no commands.
     (
-        "jump\nrun 0\nrun 1000001\nload x\nrun 1 2\nquit now\n",
-        "not a command\nbad number\nbad number\nnot a command\nnot a command\nnot a command\n",
+        "jump\nrun 0\nrun 1000001\nload x\nrun 1 2\nquit now\nlist 1\nreplace\nreplace x\napply now\n",
+        "not a command\nbad number\nbad number\nnot a command\nnot a command\nnot a command\nnot a command\nbad number\nbad number\nnot a command\n",
     ),
     // `quit` ends the script.
     ("run 1\nquit\nrun 1\n", "no program\n"),

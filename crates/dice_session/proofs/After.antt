@@ -29,6 +29,7 @@ use Rattle.image_plan.specs.Load.{place_from, place_of, placed, HasParts}
 use Rattle.image_plan.proofs.Laid.{is_same}
 use Rattle.dice_session.specs.World.{line, newest_name, ending_of, written_part, has_ended, has_ended_by}
 use Rattle.dice_session.specs.Places.{name_from, name_at, ending_told, ends}
+use Rattle.dice_session.specs.Progress.{IsStartedBy}
 use Rattle.dice_session.specs.Represents.{AtGate, AtNewest, StandsAt, FramesStand}
 use Rattle.dice_session.specs.Simulates.{IsWellFormed, IsWellFormedBy, Simulates, CanRunFrom, Ran}
 use Rattle.dice_session.proofs.Stages.{store_of, stage_by, stage_of, unmarked, HasRunBy}
@@ -94,6 +95,13 @@ pub record After (ss : List Statement) (t : PascalState) (r : MachineState × Co
   pub ending : ending_told ss r.2.end (reg r.0 7 / 2) ≡ ending_of t.status t.activations
   pub stands : (k : ConsoleState) → k.output ≡ [] → Simulates ss t r.0 k
   pub formed : IsWellFormed ss t
+  pub started : IsStartedBy t.status
+
+started_by : (ss : List Statement) (x : Status) (activations : List Activation) → HasRunBy ss x activations → IsStartedBy x
+started_by ss NotStarted activations h = absurd h
+started_by ss Halted activations h = tt
+started_by ss IsEnded activations h = tt
+started_by ss (HasFailed error name) activations h = tt
 
 formed_by : (ss : List Statement) (x : Status) (activations : List Activation) → HasRunBy ss x activations → IsWellFormedBy ss x activations
 formed_by ss NotStarted activations h = absurd h
@@ -232,6 +240,7 @@ after ss is es gates t r places parts long g = subst (After ss t) (sym g.tells) 
         represents = let s = left.stands k in record { control = s.control; variables = s.variables; frames = s.frames; console = empty };
       };
       formed = formed_by ss t.status t.activations g.formed;
+      started = started_by ss t.status t.activations g.formed;
     }
 
 -- ---- what is said of a run
@@ -249,4 +258,5 @@ ran ss gates s machine console before after_all r k is some same long empty told
       stands = a.stands;
       drained = empty;
       formed = a.formed;
+      started = a.started;
     }

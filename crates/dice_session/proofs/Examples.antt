@@ -1,4 +1,4 @@
--- Transcripts of worked scripts.
+-- Runs of worked programs, and transcripts.
 use Rattle.std.proofs.Common.{◌≡◌, ℕ, List, [], ◌∷◌, ◌++◌, Some, None, refl}
 use Rattle.std.specs.Prelude.{codes}
 use Rattle.std.specs.Fmt.{digits}
@@ -8,13 +8,13 @@ use Rattle.pascal_semantics.specs.declared.form.Statement.{Statement}
 use Rattle.pascal_semantics.specs.Program.{program_of}
 use Rattle.pascal_semantics.specs.State.{loaded_state}
 use Rattle.pascal_semantics.specs.Run.{settled, driven, run_of}
-use Rattle.dice_command.specs.declared.command.LineCommand.TheVariants.{Load, Run, Quit, Unbuilt}
-use Rattle.dice_session.specs.Reading.{TooLong, NotBuilt, Program}
-use Rattle.dice_session.specs.World.{Command, Line, TextLine, TextEnd, Nothing, line, loaded_reply, run_reply, reply_of, transcript_of}
+use Rattle.dice_command.specs.Command.{Listing, Apply, Run, Quit, Unbuilt}
+use Rattle.dice_session.specs.Reading.{TooLong, NotBuilt, NoStatement}
+use Rattle.dice_session.specs.World.{Command, Line, Puts, TextLine, TextEnd, Nothing, line, loaded_reply, run_reply, reply_of, transcript_of}
 
--- the commands of `load`, the text of a program, and `.`
-abbrev load_of : List Statement → List Command
-load_of ss = Line Load ∷ TextLine (codes "program ..") ∷ TextEnd (Program ss) ∷ []
+-- the reply to a run of so many gates from the start
+abbrev told_of : List Statement → ℕ → List ℕ
+told_of ss gates = run_reply (run_of (program_of ss) gates loaded_state)
 
 -- program m; var i, s: integer; begin i := 2; s := i + 40; writeln(s:1) end.
 abbrev answer : List Statement
@@ -24,9 +24,35 @@ answer =
     ∷ record { name = 6; form = WriteLine (record { first = Global 1; second = None }) (Some 1) }
     ∷ []
 
-answer_told : transcript_of (load_of answer ++ Line (Run 1000000) ∷ []) ≡ line (codes "loaded 4 blocks 188 words") ++ line (codes "output 3") ++ line (codes "42") ++ line (codes "ended")
-unfolding settled driven digits reply_of
+answer_loaded : loaded_reply answer ≡ line (codes "loaded 4 blocks 188 words")
+unfolding digits
+answer_loaded = refl
+
+answer_told : told_of answer 1000000 ≡ line (codes "output 3") ++ line (codes "42") ++ line (codes "ended")
+unfolding settled driven digits
 answer_told = refl
+
+-- a run of fewer gates stops before its next statement, and another goes on from there
+answer_twice : told_of answer 1 ++ run_reply (run_of (program_of answer) 1 (run_of (program_of answer) 1 loaded_state)) ≡ line (codes "stopped at 5") ++ line (codes "stopped at 6")
+unfolding settled driven digits
+answer_twice = refl
+
+-- the same with `begin s := i + 1; end` in the place of `s := i + 40`, whose statements are 7 and 8
+abbrev edited : List Statement
+edited =
+    record { name = 4; form = Assign 0 (record { first = Number 2; second = None }) }
+    ∷ record { name = 7; form = Assign 1 (record { first = Global 0; second = Some (Number 1) }) }
+    ∷ record { name = 8; form = Empty }
+    ∷ record { name = 6; form = WriteLine (record { first = Global 1; second = None }) (Some 1) }
+    ∷ []
+
+edited_loaded : loaded_reply edited ≡ line (codes "loaded 5 blocks 196 words")
+unfolding digits
+edited_loaded = refl
+
+edited_told : told_of edited 2 ++ told_of edited 9 ≡ line (codes "stopped at 8") ++ line (codes "output 2") ++ line (codes "3") ++ line (codes "ended")
+unfolding settled driven digits
+edited_told = refl
 
 -- program o; var x: integer; begin x := 32767; x := x + 1 end.
 abbrev too_large : List Statement
@@ -35,32 +61,19 @@ too_large =
     ∷ record { name = 5; form = Assign 0 (record { first = Global 0; second = Some (Number 1) }) }
     ∷ []
 
-too_large_told : transcript_of (load_of too_large ++ Line (Run 9) ∷ Line (Run 9) ∷ []) ≡ line (codes "loaded 3 blocks 132 words") ++ line (codes "error 3 at 5") ++ line (codes "already ended")
-unfolding settled driven digits reply_of
+too_large_told : told_of too_large 9 ≡ line (codes "error 3 at 5")
+unfolding settled driven digits
 too_large_told = refl
 
--- a run of fewer gates stops before its next statement, and another goes on from there
-answer_twice : transcript_of (load_of answer ++ Line (Run 1) ∷ Line (Run 1) ∷ Line (Run 5) ∷ []) ≡ line (codes "loaded 4 blocks 188 words") ++ line (codes "stopped at 5") ++ line (codes "stopped at 6") ++ line (codes "output 3") ++ line (codes "42") ++ line (codes "ended")
-unfolding settled driven digits reply_of
-answer_twice = refl
-
--- a second load begins anew, and one that is refused leaves the program where it is
-load_twice : transcript_of (load_of answer ++ Line (Run 1) ∷ Line Load ∷ TextEnd NotBuilt ∷ Line (Run 1) ∷ load_of too_large ++ Line (Run 1) ∷ [])
-    ≡ line (codes "loaded 4 blocks 188 words") ++ line (codes "stopped at 5") ++ line (codes "not built") ++ line (codes "stopped at 6") ++ line (codes "loaded 3 blocks 132 words") ++ line (codes "stopped at 5")
-unfolding settled driven digits reply_of
-load_twice = refl
-
--- no program, and what stands behind `quit`
-none_told : transcript_of (Line (Run 1) ∷ Line Unbuilt ∷ Line Quit ∷ Nothing ∷ []) ≡ line (codes "no program") ++ line (codes "not built")
+-- no program, texts that are none, and what stands behind `quit`
+none_told : transcript_of (Line (Run 1) ∷ Line Listing ∷ Line Apply ∷ Puts 4 NoStatement ∷ TextEnd TooLong ∷ TextEnd NotBuilt ∷ Line Unbuilt ∷ Line Quit ∷ Nothing ∷ [])
+    ≡ line (codes "no program") ++ line (codes "no program") ++ line (codes "no program") ++ line (codes "not built") ++ line (codes "text too long") ++ line (codes "not built") ++ line (codes "not built")
 unfolding reply_of
 none_told = refl
 
 -- a program with an empty statement, `begin ; writeln(7) end`, whose statements are 4 and 9
 abbrev with_empty : List Statement
 with_empty = record { name = 4; form = Empty } ∷ record { name = 9; form = WriteLine (record { first = Number 7; second = None }) None } ∷ []
-
-abbrev told_of : List Statement → ℕ → List ℕ
-told_of ss gates = run_reply (run_of (program_of ss) gates loaded_state)
 
 with_empty_loaded : loaded_reply with_empty ≡ line (codes "loaded 3 blocks 84 words")
 unfolding digits

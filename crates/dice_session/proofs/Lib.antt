@@ -6,4 +6,5 @@ pub mod Loaded
 pub mod Texts
 pub mod Readings
 pub mod Sessions
+pub mod Drafts
 mod Examples

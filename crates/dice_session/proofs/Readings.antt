@@ -1,47 +1,56 @@
--- Tokens and texts as programs.
-use Rattle.std.proofs.Common.{◌≡◌, ◌≤◌, ◌<◌, ℕ, List, Option, Some, None, Ok, Err, Result, refl, sym, ap, subst, ◌∙◌, length, arith, inl, inr}
+-- Tokens and texts as programs and statements.
+use Rattle.std.proofs.Common.{◌≡◌, ◌≤◌, ◌<◌, ℕ, true, List, Option, Some, None, Ok, Err, Result, refl, sym, ap, subst, ◌∙◌, length, arith, inl, inr}
 use Rattle.std.proofs.lemmas.Bool.{cases_lt}
-use Rattle.std.specs.Prelude.{IfOk}
+use Rattle.std.specs.Prelude.{IfOk, is_some}
 use Rattle.dice_base.specs.declared.token.TokenKind.{TokenKind}
 use Rattle.dice_base.specs.Lexemes.{Lexes}
 use Rattle.script_lines.specs.Front.{longest_text}
 use Rattle.program_tree.specs.declared.program.Program.{Program as Tree}
+use Rattle.program_tree.specs.declared.stmt.Stmt.{Stmt}
 use Rattle.program_tree.specs.Programs.{Derives}
+use Rattle.tree_names.specs.Naming.{numbered}
+use Rattle.pascal_parser.specs.Whole.{DerivesStmt}
 use Rattle.simple_form.specs.Simple.{resolved}
-use Rattle.pascal_semantics.specs.declared.form.Statement.{Statement}
-use Rattle.dice_session.specs.Reading.{Reading, TooLong, NotBuilt, Program, AreProgram, IsTextOf, IsReading}
-use Rattle.dice_session.specs.Readings.{IsReadingOf, IsResolved}
+use Rattle.dice_session.specs.Reading.{Reading, TooLong, NotBuilt, Program, AreProgram, IsTextOf, IsReading, Substitute, NoStatement, OneStatement, IsTextOfStmt, IsSubstitute}
+use Rattle.dice_session.specs.Readings.{IsReadingOf, IsReadingBy, IsSubstituteOf}
 
-none-some : {A : Type 0} (x : A) → None ≡ Some x → ⊥
-none-some x e = absurd cc
+-- a tree that was read, and what it resolves to once it is named
+pub tree-not-built : (tokens : List TokenKind) (tree : Tree) → resolved (numbered tree) ≡ None
+    → ((other : Tree) → Derives other tokens → tree ≡ other) → (p : Tree) → AreProgram tokens p → ⊥
+tree-not-built tokens tree e only p a =
+    let none : is_some (resolved p) ≡ is_some (resolved (numbered tree)) = ap (λ q. is_some (resolved q)) (a.named ∙ ap numbered (sym (only a.tree a.derives))) in
+    absurd (cc (sym a.built ∙ none ∙ ap is_some e))
 
--- a tree that was read, and what it resolves to
-pub tree-program : (tokens : List TokenKind) (p : Tree) (ss : List Statement) → Derives p tokens → Some ss ≡ resolved p → AreProgram tokens ss
-tree-program tokens p ss derives e = record { tree = p; derives = derives; resolves = sym e }
-
-pub tree-not-built : (tokens : List TokenKind) (p : Tree) → None ≡ resolved p
-    → ((tree : Tree) → Derives tree tokens → p ≡ tree) → (ss : List Statement) → AreProgram tokens ss → ⊥
-tree-not-built tokens p e only ss a = none-some ss (e ∙ ap resolved (only a.tree a.derives) ∙ a.resolves)
-
-pub resolved-reading : (tokens : List TokenKind) (p : Tree) (r : Reading) → Derives p tokens → ((tree : Tree) → Derives tree tokens → p ≡ tree) → IsResolved (resolved p) r → IsReadingOf tokens r
-resolved-reading tokens p TooLong derives only h = absurd h
-resolved-reading tokens p NotBuilt derives only h = tree-not-built tokens p h only
-resolved-reading tokens p (Program ss) derives only h = tree-program tokens p ss derives h
+pub tree-reading : (tokens : List TokenKind) (tree : Tree) (r : Reading) → Derives tree tokens → ((other : Tree) → Derives other tokens → tree ≡ other) → IsReadingBy tree r → IsReadingOf tokens r
+tree-reading tokens tree TooLong derives only h = absurd h
+tree-reading tokens tree NotBuilt derives only h = tree-not-built tokens tree h only
+tree-reading tokens tree (Program p) derives only h = record { tree = tree; derives = derives; named = h.0; built = h.1 }
 
 -- no tree derives the tokens
-pub no-tree : (tokens : List TokenKind) → ((tree : Tree) → Derives tree tokens → ⊥) → (ss : List Statement) → AreProgram tokens ss → ⊥
-no-tree tokens none ss a = none a.tree a.derives
+pub no-tree : (tokens : List TokenKind) → ((tree : Tree) → Derives tree tokens → ⊥) → (p : Tree) → AreProgram tokens p → ⊥
+no-tree tokens none p a = none a.tree a.derives
 
 -- a text with tokens is what they are
 pub text-reading : (text : List ℕ) (tokens : List TokenKind) (r : Reading) → length text ≤ longest_text → Lexes text tokens → ((list : List TokenKind) → Lexes text list → list ≡ tokens)
     → IsReadingOf tokens r → IsReading text r
 text-reading text tokens TooLong short lexes only h = absurd h
-text-reading text tokens NotBuilt short lexes only h = (short, λ ss a. h ss (subst (λ ts. AreProgram ts ss) (only a.tokens a.lexes) a.program))
-text-reading text tokens (Program ss) short lexes only h = (short, record { tokens = tokens; lexes = lexes; program = h })
+text-reading text tokens NotBuilt short lexes only h = (short, λ p a. h p (subst (λ ts. AreProgram ts p) (only a.tokens a.lexes) a.program))
+text-reading text tokens (Program p) short lexes only h = (short, record { tokens = tokens; lexes = lexes; program = h })
 
 -- one without tokens is not built
 pub no-tokens : (text : List ℕ) → length text ≤ longest_text → ((tokens : List TokenKind) → Lexes text tokens → ⊥) → IsReading text NotBuilt
-no-tokens text short none = (short, λ ss a. none a.tokens a.lexes)
+no-tokens text short none = (short, λ p a. none a.tokens a.lexes)
+
+-- ---- statements
+
+pub stmt-reading : (text : List ℕ) (tokens : List TokenKind) (r : Substitute) → Lexes text tokens → ((list : List TokenKind) → Lexes text list → list ≡ tokens) → IsSubstituteOf tokens r → IsSubstitute text r
+stmt-reading text tokens NoStatement lexes only h = λ s a. h s (subst (λ ts. DerivesStmt s ts) (only a.tokens a.lexes) a.derives)
+stmt-reading text tokens (OneStatement s) lexes only h = record { tokens = tokens; lexes = lexes; derives = h }
+
+pub no-stmt-tokens : (text : List ℕ) → ((tokens : List TokenKind) → Lexes text tokens → ⊥) → IsSubstitute text NoStatement
+no-stmt-tokens text none = λ s a. none a.tokens a.lexes
+
+-- ---- answers
 
 -- what is said of an answer implies what is said of it otherwise
 pub if_ok : {T E : Type 0} {P Q : T → Type 0} (r : Result T E) → IfOk r P → ((x : T) → P x → Q x) → IfOk r Q

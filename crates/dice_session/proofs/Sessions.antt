@@ -1,7 +1,7 @@
 -- The session and its world, command by command.
 use Rattle.std.proofs.Common.{◌≡◌, ◌≢◌, ◌<◌, ◌≤◌, ◌⊎◌, ℕ, ◌+◌, Bool, true, false, List, [], ◌∷◌, ◌++◌, Option, Some, None, Result, Ok, Err, length, take, refl, sym, ap, subst, ◌∙◌, append-nil, arith, inl, inr}
 use Rattle.std.specs.Prelude.{◌==◌, ◌&&◌, OnOk, bytes_eq, codes, nat_lt, if◌then◌else◌}
-use Rattle.std.proofs.lemmas.Bool.{lt-ltb}
+use Rattle.std.proofs.lemmas.Bool.{lt-ltb, le-ltb}
 use Rattle.std.proofs.lemmas.List.{append_assoc, length-take}
 use Rattle.std.specs.Fmt.{decimal}
 use Rattle.std.specs.Option.{option_map}
@@ -14,17 +14,24 @@ use Rattle.pascal_semantics.specs.Program.{program_of}
 use Rattle.pascal_semantics.specs.State.{State, Status, NotStarted, Halted, Ended, Failed, loaded_state}
 use Rattle.pascal_semantics.specs.Run.{run_of}
 use Rattle.pascal_semantics.specs.Valid.{IsProgram, code_room}
-use Rattle.dice_command.specs.declared.command.LineCommand.{LineCommand}
-use Rattle.dice_command.specs.declared.command.LineCommand.TheVariants.{Blank, Load, Run, Quit, Unbuilt, Bad}
 use Rattle.dice_command.specs.declared.command.CommandFault.TheVariants.{LineTooLong, NotACommand}
 use Rattle.dice_command.specs.Words.{is_text_byte, every, is_empty, word_of, after_word}
 use Rattle.dice_command.specs.Keyword.{keyword_of}
-use Rattle.dice_command.specs.Command.{command_of, with_arguments}
-use Rattle.dice_session.specs.Reading.{Reading, TooLong, NotBuilt, Program, IsReading}
+use Rattle.dice_command.specs.Command.{Asked, Blank, Bad, Replace, asked, command_of, with_arguments}
+use Rattle.dice_command.specs.declared.command.LineCommand.{LineCommand}
+use Rattle.program_tree.specs.declared.program.Program.{Program as Tree}
+use Rattle.program_tree.specs.declared.stmt.Stmt.{Stmt}
+use Rattle.simple_form.specs.Simple.{resolved, variables_in, is_built}
+use Rattle.tree_edit.specs.declared.fault.EditFault.{EditFault}
+use Rattle.tree_edit.specs.Edited.{replaced_program}
+use Rattle.dice_session.specs.Reading.{Reading, TooLong, NotBuilt, Program, IsReading, Substitute, NoStatement, OneStatement, IsSubstitute}
 use Rattle.dice_session.specs.Readings.{AreNamed}
-use Rattle.dice_session.specs.World.{World, Mode, Commands, Loading, Over, Command, Line, TextLine, TextEnd, Nothing, Reads, reply_of, refused, obeyed, loaded, load_of, loaded_reply, run_in, line, longer, has_ended, has_ended_by, end_line, run_reply}
+use Rattle.dice_session.specs.Progress.{progress_of, progress_by, progress_after, is_over, IsStartedBy}
+use Rattle.dice_session.specs.declared.progress.Progress.{Progress}
+use Rattle.dice_session.specs.declared.progress.Progress.TheVariants as progress
+use Rattle.dice_session.specs.World.{World, Mode, Commands, Loading, Over, Command, Line, Puts, TextLine, TextEnd, Nothing, IsCommand, Reads, reply_of, refused, obeyed, loaded, load_of, loaded_reply, run_in, line, longer, has_ended, has_ended_by, is_halted, is_halted_by, end_line, run_reply, statements_of, or_none, full_words, full_text, if_fits, with_program, applied_to, applied_by, applied_in, edited_to, edited_in, edit_fault_text, put_in, listed_in}
 use Rattle.dice_session.specs.Simulates.{StandsFor, Simulates, IsWellFormed, CanRun, CanRunBy, CanRunFrom, Ran}
-use Rattle.dice_session.specs.Lives.{Stands, StandsBy, HasMode, HasStatements, HasProgram, Lives, Became, Replied, kept_text}
+use Rattle.dice_session.specs.Lives.{Stands, StandsBy, HasMode, HasStatements, HasProgram, Lives, Became, Obeyed, Replied, kept_text}
 use Rattle.dice_session.specs.Texts.{ReadsText}
 use Rattle.dice_session.specs.declared.session.Session.{Session}
 use Rattle.dice_session.proofs.Texts.{longer-kept, same-line, same-reading}
@@ -55,21 +62,23 @@ mode-kept (Loading t) s h none = absurd (none-some (take kept_text t) (ap (optio
 mode-kept Over s h none = (h.0, refl)
 
 -- the session's part of a program does not hang on the text
-program-kept : (p : Option (List Statement)) (st : State) (s t : Session) → t.program ≡ s.program → t.ended ≡ s.ended → HasProgram p st s → HasProgram p st t
-program-kept None st s t is over h = is ∙ h
-program-kept (Some ss) st s t is over h = record { statements = ap (option_map (λ v. v.items)) is ∙ h.statements; program = h.program; formed = h.formed; ended = over ∙ h.ended }
+program-kept : (p : Option Tree) (st : State) (s t : Session) → t.program ≡ s.program → HasProgram p st s → HasProgram p st t
+program-kept None st s t is h = is ∙ h
+program-kept (Some p) st s t is h = record { statements = ap (option_map (λ v. v.items)) is ∙ h.statements; program = h.program; formed = h.formed }
 
 -- a world in another mode, and a session with another text
-pub with-mode : (w : World) (m : Mode) (s t : Session) (machine : MachineState) → Lives w s machine → HasMode m t → t.program ≡ s.program → t.ended ≡ s.ended → t.console ≡ s.console → Lives (record w { mode = m }) t machine
-with-mode w m s t machine h mode program ended console = record {
+pub with-mode : (w : World) (m : Mode) (s t : Session) (machine : MachineState) → Lives w s machine → HasMode m t → t.program ≡ s.program → t.progress ≡ s.progress → t.draft ≡ s.draft → t.console ≡ s.console → Lives (record w { mode = m }) t machine
+with-mode w m s t machine h mode program progress draft console = record {
   mode = mode;
-  program = program-kept w.program w.state s t program ended h.program;
+  program = program-kept w.present w.state s t program h.program;
+  progress = progress ∙ h.progress;
+  draft = draft ∙ h.draft;
   drained = ap (λ c. c.output) console ∙ h.drained;
   stands = h.stands;
 }
 
 pub text-taken : (w : World) (s : Session) (machine : MachineState) → Lives w s machine → s.text ≡ None → Lives w (record s { text = None }) machine
-text-taken w s machine h none = with-mode w w.mode s (record s { text = None }) machine h (mode-kept w.mode s h.mode none) refl refl refl
+text-taken w s machine h none = with-mode w w.mode s (record s { text = None }) machine h (mode-kept w.mode s h.mode none) refl refl refl refl
 
 -- ---- lines
 
@@ -86,11 +95,11 @@ over-replied w l out s machine h over = record {
   lives = h;
 }
 
-line-reads : (m : Mode) (l : List ℕ) → m ≡ Commands → Reads m l (Line (command_of l))
+line-reads : (m : Mode) (l : List ℕ) (c : Command) → m ≡ Commands → IsCommand (command_of l) c → Reads m l c
 unfolding Reads
-line-reads m l e = rw e refl
+line-reads m l c e is = rw e is
 
-abbrev by_words : List ℕ → LineCommand
+abbrev by_words : List ℕ → Asked
 by_words line =
     if is_empty (word_of line) then Blank
     else if every is_text_byte line then with_arguments (keyword_of (word_of line)) (after_word line)
@@ -107,12 +116,29 @@ same-command l line same = elim (same-line l line same) [
 ]
 
 pub command-replied : (w : World) (l given before after : List ℕ) (s t : Session) (machine now : MachineState) → Lives w s machine → s.over ≡ false → s.text ≡ None → SameFront l given
-    → (Lives w (record s { text = None }) machine → w.mode ≡ Commands → Became (obeyed w (command_of given)) before after t now) → Replied w l before after t now
-unfolding reply_of
-command-replied w l given before after s t machine now h going none same became =
+    → (Lives w (record s { text = None }) machine → w.mode ≡ Commands → Obeyed w (command_of given) before after t now) → Replied w l before after t now
+command-replied w l given before after s t machine now h going none same obeyed =
     let commands = mode-commands w.mode s h.mode going none in
-    let b = subst (λ c. Became (obeyed w c) before after t now) (same-command l given same) (became (text-taken w s machine h none) commands) in
-    record { command = Line (command_of l); reads = line-reads w.mode l commands; told = b.told; lives = b.lives }
+    let b = subst (λ c. Obeyed w c before after t now) (same-command l given same) (obeyed (text-taken w s machine h none) commands) in
+    record { command = b.command; reads = line-reads w.mode l b.command commands b.is; told = b.became.told; lives = b.became.lives }
+
+-- a command line that is no `replace` is obeyed as it stands
+pub line-obeyed : (w : World) (asked : Asked) (before after : List ℕ) (t : Session) (now : MachineState) → IsCommand asked (Line asked) → Became (obeyed w asked) before after t now → Obeyed w asked before after t now
+unfolding reply_of
+line-obeyed w asked before after t now is became = record { command = Line asked; is = is; became = became }
+
+-- the same of what the code has of the line
+pub asked-obeyed : (w : World) (command : LineCommand) (a : Asked) (before after : List ℕ) (t : Session) (now : MachineState) → asked command ≡ a → IsCommand a (Line a) → Became (obeyed w a) before after t now → Obeyed w (asked command) before after t now
+asked-obeyed w command a before after t now e is became = subst (λ x. Obeyed w x before after t now) (sym e) (line-obeyed w a before after t now is became)
+
+-- a `replace` is obeyed with the statement that it was read with
+pub puts-obeyed : (w : World) (name : ℕ) (text before after : List ℕ) (r : Substitute) (t : Session) (now : MachineState) → IsSubstitute text r → Became (put_in w name r) before after t now → Obeyed w (Replace name text) before after t now
+unfolding reply_of
+puts-obeyed w name text before after r t now is became = record { command = Puts name r; is = (r, is, refl); became = became }
+
+-- nothing but the reply
+pub refused-became : (w : World) (text before after : List ℕ) (s : Session) (machine : MachineState) → Lives w s machine → after ≡ before ++ line text → Became (refused w text) before after s machine
+refused-became w text before after s machine h told = record { told = told; lives = h }
 
 -- ---- a text that is to be loaded
 
@@ -135,7 +161,7 @@ loading-going m s t h e = (subst (λ m. HasMode m s) e h).0
 
 -- the text was taken out of the session
 pub text-open : (w : World) (s : Session) (machine : MachineState) (t : List ℕ) → Lives w s machine → w.mode ≡ Loading t → Lives (record w { mode = Commands }) (record s { text = None }) machine
-text-open w s machine t h loading = with-mode w Commands s (record s { text = None }) machine h (loading-going w.mode s t h.mode loading, refl) refl refl refl
+text-open w s machine t h loading = with-mode w Commands s (record s { text = None }) machine h (loading-going w.mode s t h.mode loading, refl) refl refl refl refl
 
 ends-text : (m : Mode) (t l : List ℕ) (r : Reading) → m ≡ Loading t → bytes_eq l end_line ≡ true → IsReading t r → Reads m l (TextEnd r)
 unfolding Reads
@@ -175,34 +201,34 @@ longer-mode : (m : Mode) (s : Session) (t l kept : List ℕ) → m ≡ Loading t
 longer-mode m s t l kept e going some front = rw e (going, some ∙ ap Some front)
 
 pub line-replied : (w : World) (t l given text kept out : List ℕ) (s u : Session) (machine : MachineState) → Lives (record w { mode = Commands }) s machine → w.mode ≡ Loading t → text ≡ take kept_text t → SameFront l given
-    → bytes_eq given end_line ≡ false → kept ≡ take kept_text (take kept_text (text ++ given) ++ 10 ∷ []) → u.over ≡ s.over → u.program ≡ s.program → u.ended ≡ s.ended → u.console ≡ s.console
+    → bytes_eq given end_line ≡ false → kept ≡ take kept_text (take kept_text (text ++ given) ++ 10 ∷ []) → u.over ≡ s.over → u.program ≡ s.program → u.progress ≡ s.progress → u.draft ≡ s.draft → u.console ≡ s.console
     → option_map (λ t. t.items) u.text ≡ Some kept → Replied w l out out u machine
 unfolding reply_of
-line-replied w t l given text kept out s u machine h loading is same not_end longest over program ended console some = record {
+line-replied w t l given text kept out s u machine h loading is same not_end longest over program progress draft console some = record {
   command = TextLine l;
   reads = adds-line w.mode t l loading (same-end l given false same not_end);
   told = sym (append-nil out);
-  lives = with-mode (record w { mode = Commands }) (longer w.mode l) s u machine h (longer-mode w.mode u t l kept loading (over ∙ h.mode.0) some (longest ∙ longer-kept text t given l is same)) program ended console;
+  lives = with-mode (record w { mode = Commands }) (longer w.mode l) s u machine h (longer-mode w.mode u t l kept loading (over ∙ h.mode.0) some (longest ∙ longer-kept text t given l is same)) program progress draft console;
 }
 
 -- ---- loads
 
-full-told : (out a d b : List ℕ) → ((out ++ a) ++ d) ++ (b ++ 10 ∷ []) ≡ out ++ line (a ++ (d ++ b))
+pub full-told : (out a d b : List ℕ) → ((out ++ a) ++ d) ++ (b ++ 10 ∷ []) ≡ out ++ line (a ++ (d ++ b))
 full-told out a d b =
     append_assoc (out ++ a) d (b ++ 10 ∷ []) ∙ append_assoc out a (d ++ (b ++ 10 ∷ []))
     ∙ ap (λ x. out ++ x) (sym (append_assoc a (d ++ b) (10 ∷ []) ∙ ap (λ x. a ++ x) (append_assoc d b (10 ∷ []))))
 
-full-load : (w : World) (ss : List Statement) → code_room < program_charge + charges_of ss → loaded w ss ≡ refused w (codes "code full: " ++ (decimal (program_charge + charges_of ss) ++ codes " words"))
-full-load w ss large = ap (λ t. if t then refused w (codes "code full: " ++ (decimal (program_charge + charges_of ss) ++ codes " words")) else (record w { program = Some ss; state = loaded_state }, loaded_reply ss))
-    (lt-ltb code_room (program_charge + charges_of ss) large)
+pub not-fitting : (ss : List Statement) (w : World) (next : World × List ℕ) → code_room < program_charge + charges_of ss → if_fits ss w next ≡ refused w (full_text ss)
+not-fitting ss w next large = ap (λ t. if t then refused w (full_text ss) else next) (lt-ltb code_room (program_charge + charges_of ss) large)
 
-pub full-became : (w : World) (ss : List Statement) (before after : List ℕ) (words : ℕ) (s : Session) (machine : MachineState) → Lives w s machine → words ≡ program_charge + charges_of ss → code_room < words
-    → after ≡ ((before ++ codes "code full: ") ++ decimal words) ++ (codes " words" ++ 10 ∷ []) → Became (loaded w ss) before after s machine
-full-became w ss before after words s machine h is large told =
-    subst (λ next. Became next before after s machine) (sym (full-load w ss (omega (arith, is, large)))) (record {
-      told = told ∙ ap (λ n. ((before ++ codes "code full: ") ++ decimal n) ++ (codes " words" ++ 10 ∷ [])) is ∙ full-told before (codes "code full: ") (decimal (program_charge + charges_of ss)) (codes " words");
-      lives = h;
-    })
+pub fitting : (ss : List Statement) (w : World) (next : World × List ℕ) → program_charge + charges_of ss ≤ code_room → if_fits ss w next ≡ next
+fitting ss w next small = ap (λ t. if t then refused w (full_text ss) else next) (le-ltb code_room (program_charge + charges_of ss) small)
+
+-- what does not fit is told
+pub full-became : (w : World) (ss : List Statement) (next : World × List ℕ) (before after : List ℕ) (words : ℕ) (s : Session) (machine : MachineState) → Lives w s machine → words ≡ program_charge + charges_of ss → code_room < words
+    → after ≡ before ++ line (full_words words) → Became (if_fits ss w next) before after s machine
+full-became w ss next before after words s machine h is large told =
+    subst (λ next. Became next before after s machine) (sym (not-fitting ss w next (omega (arith, is, large)))) (record { told = told ∙ ap (λ n. before ++ line (full_words n)) is; lives = h })
 
 -- ---- runs
 
@@ -212,20 +238,37 @@ can-run Halted e = tt
 can-run Ended e = absurd cc
 can-run (Failed error name) e = absurd cc
 
+started-progress : (over : Bool) (st : Status) → over ≡ has_ended_by st → IsStartedBy st → progress_after over ≡ progress_by st
+started-progress over NotStarted e h = absurd h
+started-progress over Halted e h = ap progress_after e
+started-progress over Ended e h = ap progress_after e
+started-progress over (Failed error name) e h = ap progress_after e
+
+over-is : (st : Status) → is_over (progress_by st) ≡ has_ended_by st
+over-is NotStarted = refl
+over-is Halted = refl
+over-is Ended = refl
+over-is (Failed error name) = refl
+
+-- what the session keeps tells whether the program has ended
+pub ended-is : (w : World) (s : Session) (machine : MachineState) → Lives w s machine → is_over s.progress ≡ has_ended w.state
+ended-is w s machine h = ap is_over h.progress ∙ over-is w.state.status
+
 pub ran-became : (w : World) (s : Session) (machine now : MachineState) (items : List Statement) (gates : ℕ) (over : Bool) (before after : List ℕ) (u : Session)
-    → Lives w s machine → w.mode ≡ Commands → option_map (λ v. v.items) s.program ≡ Some items → s.ended ≡ false
+    → Lives w s machine → w.mode ≡ Commands → option_map (λ v. v.items) s.program ≡ Some items → is_over s.progress ≡ false
     → ((st : State) → CanRunFrom items st machine s.console → Ran items gates st over before after now u.console)
-    → u.over ≡ s.over → u.text ≡ s.text → u.program ≡ s.program → u.ended ≡ over → Became (run_in w.program gates w) before after u now
-ran-became w s machine now items gates over before after u h commands some going ran is_over is_text is_program is_ended = go w.program refl h.program h.stands
+    → u.over ≡ s.over → u.text ≡ s.text → u.program ≡ s.program → u.draft ≡ s.draft → u.progress ≡ progress_after over → Became (run_in w.present gates w) before after u now
+ran-became w s machine now items gates over before after u h commands some going ran is_over is_text is_program is_draft is_progress = go w.present refl h.program h.stands
   where
     mode : HasMode w.mode u
     mode = let m = subst (λ m. HasMode m s) commands h.mode in subst (λ m. HasMode m u) (sym commands) (is_over ∙ m.0, is_text ∙ m.1)
 
-    go : (p : Option (List Statement)) → w.program ≡ p → HasProgram p w.state s → StandsBy p w.state machine → Became (run_in p gates w) before after u now
+    go : (p : Option Tree) → w.present ≡ p → HasProgram p w.state s → StandsBy p w.state machine → Became (run_in p gates w) before after u now
     go None e has stands = absurd (none-some items (ap (option_map (λ v. v.items)) (sym has) ∙ some))
-    go (Some ss) e has stands =
+    go (Some p) e has stands =
+        let ss = statements_of p in
         let same : items ≡ ss = cc (sym some ∙ has.statements) in
-        let alive : has_ended w.state ≡ false = sym has.ended ∙ going in
+        let alive : has_ended w.state ≡ false = sym (ended-is w s machine h) ∙ going in
         let r = ran w.state (subst (λ xs. CanRunFrom xs w.state machine s.console) (sym same) (record { formed = has.formed; can = can-run w.state.status alive; stands = stands s.console h.drained })) in
         let q = subst (λ xs. Ran xs gates w.state over before after now u.console) same r in
         let next = run_of (program_of ss) gates w.state in
@@ -233,8 +276,28 @@ ran-became w s machine now items gates over before after u h commands some going
           told = q.told;
           lives = record {
             mode = mode;
-            program = subst (λ p. HasProgram p next u) (sym e) (record { statements = ap (option_map (λ v. v.items)) is_program ∙ has.statements; program = has.program; formed = q.formed; ended = is_ended ∙ q.over_is });
+            program = subst (λ p. HasProgram p next u) (sym e) (record { statements = ap (option_map (λ v. v.items)) is_program ∙ has.statements; program = has.program; formed = q.formed });
+            progress = is_progress ∙ started-progress over next.status q.over_is q.started;
+            draft = is_draft ∙ h.draft;
             drained = q.drained;
             stands = subst (λ p. StandsBy p next now) (sym e) q.stands;
           };
         })
+
+-- where there is no program, and where it has ended
+pub run-none : (w : World) (gates : ℕ) (before after : List ℕ) (s : Session) (machine : MachineState) → Lives w s machine → s.program ≡ None → after ≡ before ++ line (codes "no program") → Became (run_in w.present gates w) before after s machine
+run-none w gates before after s machine h none told = go w.present h.program
+  where
+    go : (p : Option Tree) → HasProgram p w.state s → Became (run_in p gates w) before after s machine
+    go None has = record { told = told; lives = h }
+    go (Some p) has = absurd (none-some (statements_of p) (ap (option_map (λ v. v.items)) (sym none) ∙ has.statements))
+
+pub run-over : (w : World) (gates : ℕ) (items : List Statement) (before after : List ℕ) (s : Session) (machine : MachineState) → Lives w s machine → option_map (λ v. v.items) s.program ≡ Some items → is_over s.progress ≡ true
+    → after ≡ before ++ line (codes "already ended") → Became (run_in w.present gates w) before after s machine
+run-over w gates items before after s machine h some over told = go w.present h.program
+  where
+    go : (p : Option Tree) → HasProgram p w.state s → Became (run_in p gates w) before after s machine
+    go None has = absurd (none-some items (ap (option_map (λ v. v.items)) (sym has) ∙ some))
+    go (Some p) has =
+        subst (λ b. Became (if b then refused w (codes "already ended") else (record w { state = run_of (program_of (statements_of p)) gates w.state }, run_reply (run_of (program_of (statements_of p)) gates w.state))) before after s machine)
+        (sym (sym (ended-is w s machine h) ∙ over)) (record { told = told; lives = h })

@@ -60,4 +60,4 @@ same-text text kept is short = sym (is ∙ take_all kept_text text (omega (arith
 pub same-reading : (text kept : List ℕ) (r : Reading) → kept ≡ take kept_text text → IsReading kept r → IsReading text r
 same-reading text kept TooLong is h = omega (arith, ap length is, length-take kept_text text, h)
 same-reading text kept NotBuilt is h = let e = same-text text kept is h.0 in rw e h
-same-reading text kept (Program ss) is h = let e = same-text text kept is h.0 in rw e h
+same-reading text kept (Program p) is h = let e = same-text text kept is h.0 in rw e h

@@ -6,3 +6,4 @@ pub mod Simulates
 pub mod Places
 pub mod Lives
 pub mod Texts
+pub mod Progress

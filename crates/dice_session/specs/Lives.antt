@@ -7,17 +7,20 @@ use Rattle.pdp11_machine.specs.State.{State as MachineState, zero_machine}
 use Rattle.pascal_semantics.specs.State.{State}
 use Rattle.pascal_semantics.specs.declared.form.Statement.{Statement}
 use Rattle.pascal_semantics.specs.Valid.{IsProgram}
-use Rattle.dice_session.specs.World.{World, Mode, Commands, Loading, Over, Command, Reads, reply_of, end_line, missing_end, has_ended, obeyed}
+use Rattle.program_tree.specs.declared.program.Program.{Program as Tree}
+use Rattle.dice_command.specs.Command.{Asked}
+use Rattle.dice_session.specs.World.{World, Mode, Commands, Loading, Over, Command, IsCommand, Reads, reply_of, end_line, missing_end, statements_of}
 use Rattle.dice_session.specs.Simulates.{StandsFor, IsWellFormed}
+use Rattle.dice_session.specs.Progress.{progress_of}
 use Rattle.dice_session.specs.declared.session.Session.{Session}
 
 -- the machine stands for the state of the present program; before any load it is as it was made
-abbrev pub StandsBy : Option (List Statement) → State → MachineState → Type 0
+abbrev pub StandsBy : Option Tree → State → MachineState → Type 0
 StandsBy None s machine = machine ≡ zero_machine
-StandsBy (Some ss) s machine = StandsFor ss s machine
+StandsBy (Some p) s machine = StandsFor (statements_of p) s machine
 
 abbrev pub Stands : World → MachineState → Type 0
-Stands w machine = StandsBy w.program w.state machine
+Stands w machine = StandsBy w.present w.state machine
 
 -- of a text that is to be loaded, no more than this is kept
 abbrev pub kept_text : ℕ
@@ -29,21 +32,22 @@ HasMode Commands session = (session.over ≡ false) × (session.text ≡ None)
 HasMode (Loading text) session = (session.over ≡ false) × (option_map (λ t. t.items) session.text ≡ Some (take kept_text text))
 HasMode Over session = (session.over ≡ true) × (session.text ≡ None)
 
--- a program that was loaded, and its state
+-- the statements of the program that was loaded
 pub record HasStatements (ss : List Statement) (s : State) (session : Session) : Type 0 where
   pub statements : option_map (λ v. v.items) session.program ≡ Some ss
   pub program : IsProgram ss
   pub formed : IsWellFormed ss s
-  pub ended : session.ended ≡ has_ended s
 
-abbrev pub HasProgram : Option (List Statement) → State → Session → Type 0
+abbrev pub HasProgram : Option Tree → State → Session → Type 0
 HasProgram None s session = session.program ≡ None
-HasProgram (Some ss) s session = HasStatements ss s session
+HasProgram (Some p) s session = HasStatements (statements_of p) s session
 
 -- the session and the machine are those of the world
 pub record Lives (w : World) (session : Session) (machine : MachineState) : Type 0 where
   pub mode : HasMode w.mode session
-  pub program : HasProgram w.program w.state session
+  pub program : HasProgram w.present w.state session
+  pub progress : session.progress ≡ progress_of w.state
+  pub draft : session.draft ≡ w.draft
   pub drained : session.console.output ≡ []
   pub stands : Stands w machine
 
@@ -61,6 +65,12 @@ ending_if false = []
 pub record Became (next : World × List ℕ) (before after : List ℕ) (session : Session) (machine : MachineState) : Type 0 where
   pub told : after ≡ before ++ next.1
   pub lives : Lives next.0 session machine
+
+-- what was asked was read as a command, and the command was obeyed
+pub record Obeyed (w : World) (asked : Asked) (before after : List ℕ) (session : Session) (machine : MachineState) : Type 0 where
+  pub command : Command
+  pub is : IsCommand asked command
+  pub became : Became (reply_of w command) before after session machine
 
 -- the line was read as a command, and the command was obeyed
 pub record Replied (w : World) (line : List ℕ) (before after : List ℕ) (session : Session) (machine : MachineState) : Type 0 where

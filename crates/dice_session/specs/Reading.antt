@@ -1,32 +1,51 @@
--- What a text that is to be loaded turns out to be.
-use Rattle.std.specs.Prelude.{◌≡◌, ℕ, ◌<◌, ◌≤◌, List, length, Some}
+-- What texts turn out to be: one that is to be loaded, and one that is to stand in the place of a statement.
+use Rattle.std.specs.Prelude.{◌≡◌, ℕ, ◌<◌, ◌≤◌, true, List, length, is_some}
 use Rattle.dice_base.specs.declared.token.TokenKind.{TokenKind}
 use Rattle.dice_base.specs.Lexemes.{Lexes}
 use Rattle.script_lines.specs.Front.{longest_text}
 use Rattle.program_tree.specs.declared.program.Program.{Program as Tree}
+use Rattle.program_tree.specs.declared.stmt.Stmt.{Stmt}
 use Rattle.program_tree.specs.Programs.{Derives}
+use Rattle.tree_names.specs.Naming.{numbered}
+use Rattle.pascal_parser.specs.Whole.{DerivesStmt}
 use Rattle.simple_form.specs.Simple.{resolved}
-use Rattle.pascal_semantics.specs.declared.form.Statement.{Statement}
 
--- the tokens are a program of the grammar that resolves to these statements, named in the order of the text
-pub record AreProgram (tokens : List TokenKind) (ss : List Statement) : Type 0 where
+-- the tokens are a program of the grammar and of the forms that are built, whose items are named in the order of the
+-- text
+pub record AreProgram (tokens : List TokenKind) (p : Tree) : Type 0 where
   pub tree : Tree
   pub derives : Derives tree tokens
-  pub resolves : resolved tree ≡ Some ss
+  pub named : p ≡ numbered tree
+  pub built : is_some (resolved p) ≡ true
 
--- the text is a program of these statements
-pub record IsTextOf (text : List ℕ) (ss : List Statement) : Type 0 where
+-- the text is this program
+pub record IsTextOf (text : List ℕ) (p : Tree) : Type 0 where
   pub tokens : List TokenKind
   pub lexes : Lexes text tokens
-  pub program : AreProgram tokens ss
+  pub program : AreProgram tokens p
 
 -- a text that is too long, one of a form that is not built, or a program
 pub data Reading : Type 0 where
   TooLong : Reading
   NotBuilt : Reading
-  Program : (statements : List Statement) → Reading
+  Program : (tree : Tree) → Reading
 
 abbrev pub IsReading : List ℕ → Reading → Type 0
 IsReading text TooLong = longest_text < length text
-IsReading text NotBuilt = (length text ≤ longest_text) × ((ss : List Statement) → IsTextOf text ss → ⊥)
-IsReading text (Program ss) = (length text ≤ longest_text) × IsTextOf text ss
+IsReading text NotBuilt = (length text ≤ longest_text) × ((p : Tree) → IsTextOf text p → ⊥)
+IsReading text (Program p) = (length text ≤ longest_text) × IsTextOf text p
+
+-- the text is this statement of the grammar, without names
+pub record IsTextOfStmt (text : List ℕ) (s : Stmt) : Type 0 where
+  pub tokens : List TokenKind
+  pub lexes : Lexes text tokens
+  pub derives : DerivesStmt s tokens
+
+-- what is to stand in the place of a statement: none that is read, or one
+pub data Substitute : Type 0 where
+  NoStatement : Substitute
+  OneStatement : (stmt : Stmt) → Substitute
+
+abbrev pub IsSubstitute : List ℕ → Substitute → Type 0
+IsSubstitute text NoStatement = (s : Stmt) → IsTextOfStmt text s → ⊥
+IsSubstitute text (OneStatement s) = IsTextOfStmt text s

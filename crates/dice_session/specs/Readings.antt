@@ -1,17 +1,22 @@
 -- Texts as the code keeps them.
-use Rattle.std.specs.Prelude.{◌≡◌, ℕ, ◌≤◌, List, length, Option, Some, None}
+use Rattle.std.specs.Prelude.{◌≡◌, ℕ, ◌≤◌, true, List, length, Option, Some, None, is_some}
 use Rattle.std.specs.List.{AllByRecursion}
 use Rattle.pascal_semantics.specs.declared.form.Statement.{Statement}
 use Rattle.pascal_semantics.specs.Valid.{IsForm, AllDiffer, IsFree, program_name}
+use Rattle.program_tree.specs.declared.program.Program.{Program as Tree}
+use Rattle.program_tree.specs.declared.stmt.Stmt.{Stmt}
 use Rattle.program_tree.specs.Tokens.{Toks}
-use Rattle.dice_session.specs.Reading.{Reading, TooLong, NotBuilt, Program, AreProgram}
+use Rattle.tree_names.specs.Naming.{numbered}
+use Rattle.simple_form.specs.Simple.{resolved}
+use Rattle.pascal_parser.specs.Whole.{DerivesStmt}
+use Rattle.dice_session.specs.Reading.{Reading, TooLong, NotBuilt, Program, AreProgram, Substitute, NoStatement, OneStatement}
 use Rattle.dice_session.specs.declared.reading.Found.{Found}
 use Rattle.dice_session.specs.declared.reading.Found.TheVariants as found
 
 abbrev pub reading_of : Found → Reading
 reading_of found.TooLong = TooLong
 reading_of found.NotBuilt = NotBuilt
-reading_of (found.Program statements) = Program statements.items
+reading_of (found.Program tree statements) = Program tree
 
 -- statements that can be loaded where they fit
 pub record AreNamed (ss : List Statement) : Type 0 where
@@ -20,19 +25,33 @@ pub record AreNamed (ss : List Statement) : Type 0 where
   pub free : IsFree program_name ss
   pub few : length ss ≤ 4294967296
 
-abbrev pub IsNamed : Reading → Type 0
-IsNamed TooLong = Unit {0}
-IsNamed NotBuilt = Unit {0}
-IsNamed (Program ss) = AreNamed ss
+-- the statements of a program that was read
+pub record AreStatements (p : Tree) (ss : List Statement) : Type 0 where
+  pub resolves : resolved p ≡ Some ss
+  pub named : AreNamed ss
+
+abbrev pub HasFound : Found → Type 0
+HasFound found.TooLong = Unit {0}
+HasFound found.NotBuilt = Unit {0}
+HasFound (found.Program tree statements) = AreStatements tree statements.items
 
 -- what tokens are
 abbrev pub IsReadingOf : Toks → Reading → Type 0
 IsReadingOf tokens TooLong = ⊥
-IsReadingOf tokens NotBuilt = (ss : List Statement) → AreProgram tokens ss → ⊥
-IsReadingOf tokens (Program ss) = AreProgram tokens ss
+IsReadingOf tokens NotBuilt = (p : Tree) → AreProgram tokens p → ⊥
+IsReadingOf tokens (Program p) = AreProgram tokens p
 
--- what a tree is by what it resolves to
-abbrev pub IsResolved : Option (List Statement) → Reading → Type 0
-IsResolved r TooLong = ⊥
-IsResolved r NotBuilt = None ≡ r
-IsResolved r (Program ss) = Some ss ≡ r
+-- what a tree is, once its items are named
+abbrev pub IsReadingBy : Tree → Reading → Type 0
+IsReadingBy tree TooLong = ⊥
+IsReadingBy tree NotBuilt = resolved (numbered tree) ≡ None
+IsReadingBy tree (Program p) = (p ≡ numbered tree) × (is_some (resolved p) ≡ true)
+
+abbrev pub substitute_of : Option Stmt → Substitute
+substitute_of None = NoStatement
+substitute_of (Some s) = OneStatement s
+
+-- what tokens are that are to be a statement
+abbrev pub IsSubstituteOf : Toks → Substitute → Type 0
+IsSubstituteOf tokens NoStatement = (s : Stmt) → DerivesStmt s tokens → ⊥
+IsSubstituteOf tokens (OneStatement s) = DerivesStmt s tokens

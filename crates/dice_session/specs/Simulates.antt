@@ -16,6 +16,7 @@ use Rattle.pascal_semantics.specs.Run.{run_of}
 use Rattle.pascal_semantics.specs.Valid.{program_name}
 use Rattle.dice_session.specs.World.{run_reply, has_ended}
 use Rattle.dice_session.specs.Represents.{Represents}
+use Rattle.dice_session.specs.Progress.{IsStartedBy}
 
 -- at the gate of one of the program's statements
 abbrev pub IsAtStatement : List Statement → List Activation → Type 0
@@ -66,3 +67,4 @@ pub record Ran (ss : List Statement) (gates : ℕ) (s : State) (over : Bool) (be
   pub stands : StandsFor ss (run_of (program_of ss) gates s) machine
   pub drained : console.output ≡ []
   pub formed : IsWellFormed ss (run_of (program_of ss) gates s)
+  pub started : IsStartedBy (run_of (program_of ss) gates s).status

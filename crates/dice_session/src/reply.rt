@@ -1,15 +1,18 @@
 //! The lines of replies.
-ghost use Rattle.std.specs.Prelude.{◌≡◌, ◌+◌, ◌≤◌, ◌++◌, OnOk};
+ghost use Rattle.std.specs.Prelude.{◌≡◌, ◌+◌, ◌≤◌, ◌++◌, codes, OnOk};
+ghost use Rattle.std.specs.Fmt.{decimal};
+ghost use Rattle.tree_edit.specs.declared.fault.EditFault.TheVariants.{NoMemory as WantsMemory};
 ghost use Rattle.pascal_semantics.specs.Charge.{program_charge, charges_of};
 ghost use Rattle.pascal_semantics.specs.Valid.{code_room};
-ghost use Rattle.dice_session.specs.World.{line, loaded_reply, written_part};
+ghost use Rattle.dice_session.specs.World.{line, loaded_reply, written_part, full_words, edit_fault_text};
 ghost use Rattle.dice_session.specs.Places.{ending_told};
 
 use crate::place::name_at;
-use dice_base::{NoMemory, Text, push_decimal};
+use dice_base::{Name, NoMemory, Text, push_decimal};
 use pascal_semantics::Statement;
 use std::alloc::Global;
 use target_monitor::GoEnd;
+use tree_edit::EditFault;
 
 /// `loaded B blocks W words`.
 pub(crate) fn push_loaded(
@@ -26,6 +29,54 @@ pub(crate) fn push_loaded(
     out.append(alloc, b" blocks ")?;
     push_decimal(alloc, out, words as u64)?;
     out.append(alloc, b" words\n")
+}
+
+/// A reply of one line.
+pub(crate) fn refuse(alloc: Global, out: &mut Text, text: &[u8]) -> Result<(), NoMemory>
+    ensures { OnOk result (out.new ≡ out.old ++ line text.now) }
+{
+    out.append(alloc, text)?;
+    out.push(alloc, b'\n')
+}
+
+/// `code full: W words`.
+pub(crate) fn push_full(alloc: Global, out: &mut Text, words: u64) -> Result<(), NoMemory>
+    ensures { OnOk result (out.new ≡ out.old ++ line (full_words words)) }
+{
+    out.append(alloc, b"code full: ")?;
+    push_decimal(alloc, out, words)?;
+    out.append(alloc, b" words\n")
+}
+
+/// `edited N`.
+pub(crate) fn push_edited(alloc: Global, out: &mut Text, name: u32) -> Result<(), NoMemory>
+    ensures { OnOk result (out.new ≡ out.old ++ line (codes "edited " ++ decimal name)) }
+{
+    out.append(alloc, b"edited ")?;
+    push_decimal(alloc, out, u64::from(name))?;
+    out.push(alloc, b'\n')
+}
+
+fn push_named(alloc: Global, out: &mut Text, text: &[u8], name: Name) -> Result<(), NoMemory>
+    ensures { OnOk result (out.new ≡ out.old ++ line (text.now ++ decimal name.0)) }
+{
+    out.append(alloc, text)?;
+    push_decimal(alloc, out, u64::from(name.0))?;
+    out.push(alloc, b'\n')
+}
+
+/// Why an edit is refused.
+pub(crate) fn refuse_edit(alloc: Global, out: &mut Text, fault: EditFault) -> Result<(), NoMemory>
+    ensures value { OnOk result (out.new ≡ out.old ++ line (edit_fault_text fault)) }
+    ensures told { OnOk result (¬ (fault ≡ WantsMemory)) }
+{
+    match fault {
+        EditFault::NoSuchName(name) => push_named(alloc, out, b"no such name ", name),
+        EditFault::WrongKind(name) => push_named(alloc, out, b"wrong kind ", name),
+        EditFault::TooDeep => refuse(alloc, out, b"too deep"),
+        EditFault::NamesSpent => refuse(alloc, out, b"names spent"),
+        EditFault::NoMemory => Err(NoMemory),
+    }
 }
 
 /// What a run wrote, behind a line with its length, and closed by a line end where it has none. Nothing where nothing

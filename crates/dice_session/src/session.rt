@@ -1,24 +1,26 @@
 //! The session: what each line of a script does, and the reply to it.
-ghost use Rattle.std.specs.Prelude.{◌≡◌, ◌≤◌, ◌++◌, ℕ, List, [], ◌∷◌, length, take, true, false, None, IfOk, OnOk, bytes_eq};
+ghost use Rattle.std.specs.Prelude.{◌≡◌, ◌≤◌, ◌++◌, ℕ, List, [], ◌∷◌, length, take, true, false, None, Some, IfOk, OnOk, bytes_eq};
 ghost use Rattle.pdp11_machine.specs.State.{State as MachineState, zero_machine};
 ghost use Rattle.script_lines.specs.Front.{SameFront};
-ghost use Rattle.pascal_semantics.specs.State.{State};
+ghost use Rattle.program_tree.specs.declared.program.Program.{Program as Tree};
+ghost use Rattle.simple_form.specs.Simple.{resolved};
 ghost use Rattle.pascal_semantics.specs.Valid.{IsProgram};
-ghost use Rattle.dice_session.specs.Simulates.{CanRunFrom, Ran};
-ghost use Rattle.dice_session.specs.Reading.{IsReading, Program};
-ghost use Rattle.dice_session.specs.Readings.{AreNamed};
-ghost use Rattle.dice_command.specs.Command.{IsWellRead};
-ghost use Rattle.dice_session.specs.World.{World, Commands, Loading, empty_world, missing_end, obeyed, loaded, run_in, line, end_line, fault_text, has_ended};
-ghost use Rattle.dice_session.specs.Lives.{Lives, Replied, Became, IsOver, ending_if, kept_text};
+ghost use Rattle.dice_command.specs.Command.{asked, Blank, Load, Quit, IsWellRead};
+ghost use Rattle.dice_session.specs.Readings.{AreNamed, AreStatements};
+ghost use Rattle.dice_session.specs.World.{World, Commands, Loading, empty_world, missing_end, obeyed, loaded, run_in, line, end_line, fault_text, with_program, loaded_reply, full_text};
+ghost use Rattle.dice_session.specs.Lives.{Lives, Replied, Obeyed, Became, IsOver, ending_if, kept_text};
 ghost use Rattle.dice_session.specs.Texts.{ReadsText};
 
 use crate::loading::load;
+use crate::progress::{Progress, progress_after};
 use crate::reading::{Found, read_program};
+use crate::reply::{push_full, refuse};
 use crate::running::run;
 use crate::text::longer;
 use console_service::Console;
-use dice_base::{NoMemory, Text, push_decimal};
+use dice_base::{NoMemory, Text};
 use dice_command::{CommandFault, LineCommand, parse_command};
+use named_program::Program;
 use pascal_semantics::{Statement, code_words};
 use pdp11_machine::Machine;
 use std::alloc::Global;
@@ -26,14 +28,16 @@ use std::alloc::Global;
 /// The words of the code area.
 const CODE_ROOM: u64 = 10_240;
 
-/// A session: the present program and what the next line of the script is. The program's state is that of the machine
-/// and the console.
+/// A session: the present program, the draft, and what the next line of the script is. The program's state is that of
+/// the machine and the console.
 #[derive(Drop)]
 pub struct Session {
-    console: Console,
-    program: Option<Vec<Statement>>,
-    // The program has ended or is in error.
-    ended: bool,
+    pub(crate) console: Console,
+    // The statements of the present program.
+    pub(crate) program: Option<Vec<Statement>>,
+    pub(crate) progress: Progress,
+    // The program that edits change.
+    pub(crate) draft: Option<Program>,
     // The front of a text that is to be loaded, while lines of it are read.
     text: Option<Vec<u8>>,
     // `quit` was read.
@@ -48,7 +52,8 @@ impl Session {
         Ok(Session {
             console: Console::new(alloc)?,
             program: None,
-            ended: false,
+            progress: Progress::NotStarted,
+            draft: None,
             text: None,
             over: false,
         })
@@ -115,28 +120,47 @@ impl Session {
     fn obey(
         &mut self,
         alloc: Global,
-        command: LineCommand,
+        command: LineCommand<'_>,
         machine: &mut Machine,
         out: &mut Text,
     ) -> Result<(), NoMemory>
-        requires well_read { IsWellRead command }
+        requires well_read { IsWellRead (asked command) }
         requires lives { (w : World) × Lives w self.old machine.old }
-        ensures { OnOk result ((w : World) → Lives w self.old machine.old → w.mode ≡ Commands → Became (obeyed w command) out.old out.new self.new machine.new) }
+        ensures { OnOk result ((w : World) → Lives w self.old machine.old → w.mode ≡ Commands → Obeyed w (asked command.entry) out.old out.new self.new machine.new) }
     {
         match command {
-            LineCommand::Blank => Ok(()),
-            LineCommand::Load => {
-                self.text = Some(Vec::new(alloc));
-                Ok(())
-            }
+            LineCommand::Blank => self.idle(),
+            LineCommand::Load => self.open_text(alloc),
+            LineCommand::List => self.list(alloc, out),
+            LineCommand::Replace(name, text) => self.replace(alloc, name, text, out),
+            LineCommand::Apply => self.apply(alloc, machine, out),
             LineCommand::Run(gates) => self.run(alloc, gates, machine, out),
-            LineCommand::Quit => {
-                self.over = true;
-                Ok(())
-            }
+            LineCommand::Quit => self.quit(),
             LineCommand::Unbuilt => refuse(alloc, out, b"not built"),
             LineCommand::Bad(fault) => refuse(alloc, out, fault_text(fault)),
         }
+    }
+
+    // A line of blanks.
+    fn idle(&mut self) -> Result<(), NoMemory>
+        ensures { OnOk result ((w : World) (out : List ℕ) (machine : MachineState) → Lives w self.old machine → Became (obeyed w Blank) out out self.new machine) }
+    {
+        Ok(())
+    }
+
+    // The lines that follow are a text.
+    fn open_text(&mut self, alloc: Global) -> Result<(), NoMemory>
+        ensures { OnOk result ((w : World) (out : List ℕ) (machine : MachineState) → Lives w self.old machine → w.mode ≡ Commands → Became (obeyed w Load) out out self.new machine) }
+    {
+        self.text = Some(Vec::new(alloc));
+        Ok(())
+    }
+
+    fn quit(&mut self) -> Result<(), NoMemory>
+        ensures { OnOk result ((w : World) (out : List ℕ) (machine : MachineState) → Lives w self.old machine → w.mode ≡ Commands → Became (obeyed w Quit) out out self.new machine) }
+    {
+        self.over = true;
+        Ok(())
     }
 
     fn run(
@@ -148,15 +172,16 @@ impl Session {
     ) -> Result<(), NoMemory>
         requires some { 1 ≤ gates }
         requires lives { (w : World) × Lives w self.old machine.old }
-        ensures { OnOk result ((w : World) → Lives w self.old machine.old → w.mode ≡ Commands → Became (run_in w.program gates w) out.old out.new self.new machine.new) }
+        ensures { OnOk result ((w : World) → Lives w self.old machine.old → w.mode ≡ Commands → Became (run_in w.present gates w) out.old out.new self.new machine.new) }
     {
         let Some(statements) = &self.program else {
             return refuse(alloc, out, b"no program");
         };
-        if self.ended {
+        if self.progress.is_over() {
             return refuse(alloc, out, b"already ended");
         }
-        self.ended = run(alloc, statements, gates, machine, &mut self.console, out)?;
+        let over = run(alloc, statements, gates, machine, &mut self.console, out)?;
+        self.progress = progress_after(over);
         Ok(())
     }
 
@@ -173,29 +198,48 @@ impl Session {
         match read_program(alloc, text)? {
             Found::TooLong => refuse(alloc, out, b"text too long"),
             Found::NotBuilt => refuse(alloc, out, b"not built"),
-            Found::Program(statements) => self.load(alloc, statements, machine, out),
+            Found::Program(program, statements) => {
+                self.load(alloc, program, statements, machine, out)
+            }
         }
     }
 
+    // The program is the present one and the draft, where its blocks fit.
     fn load(
+        &mut self,
+        alloc: Global,
+        program: Program,
+        statements: Vec<Statement>,
+        machine: &mut Machine,
+        out: &mut Text,
+    ) -> Result<(), NoMemory>
+        requires { AreStatements program statements.items }
+        ensures { OnOk result ((w : World) → Lives w self.old machine.old → w.mode ≡ Commands → Became (loaded w program statements.items) out.old out.new self.new machine.new) }
+    {
+        let words = code_words(&statements);
+        if words > CODE_ROOM {
+            return push_full(alloc, out, words);
+        }
+        self.begin(alloc, statements, machine, out)?;
+        self.draft = Some(program);
+        Ok(())
+    }
+
+    /// The statements of a program become those of the present one, and the machine is ready to begin it.
+    pub(crate) fn begin(
         &mut self,
         alloc: Global,
         statements: Vec<Statement>,
         machine: &mut Machine,
         out: &mut Text,
     ) -> Result<(), NoMemory>
-        requires { AreNamed statements.items }
-        ensures { OnOk result ((w : World) → Lives w self.old machine.old → w.mode ≡ Commands → Became (loaded w statements.items) out.old out.new self.new machine.new) }
+        requires { IsProgram statements.items }
+        ensures { OnOk result ((w : World) (p : Tree) → Lives w self.old machine.old → w.mode ≡ Commands → resolved p ≡ Some statements.items
+            → Became (with_program w p, loaded_reply statements.items) out.old out.new self.new machine.new) }
     {
-        let words = code_words(&statements);
-        if words > CODE_ROOM {
-            out.append(alloc, b"code full: ")?;
-            push_decimal(alloc, out, words)?;
-            return out.append(alloc, b" words\n");
-        }
         load(alloc, &statements, machine, &mut self.console, out)?;
         self.program = Some(statements);
-        self.ended = false;
+        self.progress = Progress::NotStarted;
         Ok(())
     }
 }
@@ -205,14 +249,6 @@ fn is_end(line: &[u8]) -> bool
     ensures { result ≡ bytes_eq line.now end_line }
 {
     line == b".".as_slice()
-}
-
-// A reply of one line.
-fn refuse(alloc: Global, out: &mut Text, text: &[u8]) -> Result<(), NoMemory>
-    ensures { OnOk result (out.new ≡ out.old ++ line text.now) }
-{
-    out.append(alloc, text)?;
-    out.push(alloc, b'\n')
 }
 
 fn fault_text(fault: CommandFault) -> &'static [u8]

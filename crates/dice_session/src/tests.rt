@@ -397,7 +397,7 @@ fn answers_a_line(rt: HostRuntime) -> Result<(), Fail> {
 #[test]
 fn reads_programs(rt: HostRuntime) -> Result<(), Fail> {
     let text = b"program m; var x, y: integer; begin begin y := x end; end.";
-    let Found::Program(statements) = read_program(rt.alloc(), text)? else {
+    let Found::Program(program, statements) = read_program(rt.alloc(), text)? else {
         panic!(rt; "no program");
     };
     let variable = Sum {
@@ -415,5 +415,6 @@ fn reads_programs(rt: HostRuntime) -> Result<(), Fail> {
         },
     ];
     assert_eq!(rt; statements.as_slice(), expected.as_slice());
+    assert_eq!(rt; program.next_name(), 7);
     Ok(())
 }

@@ -1,8 +1,8 @@
 use Rattle.std.proofs.Common.{ap, ◌∙◌}
-use Rattle.pascal_scanner.specs.Longest.{front, past}
-use Rattle.dice_command.specs.Words.{is_blank, is_word_byte}
+use Rattle.pascal_scanner.specs.Longest.{past}
+use Rattle.dice_command.specs.Words.{is_word_byte}
 use Rattle.dice_command.proofs.Fronts.{past-at}
 use Rattle.dice_command.proofs.words.after_word.Goals as goal
 
-pub returns : goal.returns
-returns c = past-at is_word_byte c.past_blanks-text.result.now _ c.solid_len.ensures.value ∙ ap (past is_word_byte) c.past_blanks-text.ensures
+pub returns-clause-value : goal.returns-clause-value
+returns-clause-value c = past-at is_word_byte c.past_blanks-text.result.now _ c.solid_len.ensures.value ∙ ap (past is_word_byte) c.past_blanks-text.ensures.value

@@ -1,6 +1,6 @@
 use Rattle.std.proofs.Common.{◌≡◌, drop}
-use Rattle.dice_base.specs.Lexemes.{digit_byte, word_byte}
-use Rattle.dice_command.specs.Words.{every, is_text_byte}
+use Rattle.dice_base.specs.Lexemes.{digit_byte}
+use Rattle.dice_command.specs.Words.{every}
 use Rattle.dice_command.proofs.words.are_digits.Given as goal
 
 abbrev pub invariant-loop-byte : goal.invariant-loop-byte

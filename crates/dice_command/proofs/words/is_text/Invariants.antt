@@ -1,5 +1,4 @@
 use Rattle.std.proofs.Common.{◌≡◌, drop}
-use Rattle.dice_base.specs.Lexemes.{digit_byte, word_byte}
 use Rattle.dice_command.specs.Words.{every, is_text_byte}
 use Rattle.dice_command.proofs.words.is_text.Given as goal
 

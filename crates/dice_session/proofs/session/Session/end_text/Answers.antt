@@ -1,4 +1,7 @@
-use Rattle.std.proofs.Common.{refl}
+use Rattle.std.proofs.Common.{ap, subst, sym}
+use Rattle.dice_session.specs.World.{loaded, or_none}
+use Rattle.dice_session.specs.Lives.{Became}
+use Rattle.dice_session.specs.Readings.{AreStatements}
 use Rattle.dice_session.specs.Reading.{TooLong, NotBuilt, Program}
 use Rattle.dice_session.proofs.Texts.{same-reading}
 use Rattle.dice_session.proofs.Sessions.{on_ok}
@@ -19,8 +22,8 @@ returns-in-NotBuilt c = on_ok c.refuse-in-NotBuilt.result c.refuse-in-NotBuilt.e
 })
 
 pub returns-in-Program : goal.returns-in-Program
-returns-in-Program c = on_ok c.load.result c.load.ensures (λ f w t lives mode is. record {
-  reading = Program c.in-Program.statements.items;
-  is = same-reading t c.args.text.now (Program c.in-Program.statements.items) is (rw c.in-Program.is at c.in_ok-read_program.ensures.reading);
-  became = f w lives mode;
+returns-in-Program c = on_ok c.load.result c.load.ensures (λ f w t lives mode is. let found : AreStatements c.in-Program.program c.in-Program.statements.items = rw c.in-Program.is at c.in_ok-read_program.ensures.found in record {
+  reading = Program c.in-Program.program;
+  is = same-reading t c.args.text.now (Program c.in-Program.program) is (rw c.in-Program.is at c.in_ok-read_program.ensures.reading);
+  became = subst (λ ss. Became (loaded w c.in-Program.program ss) c.args.out.now c.load.new.out c.load.new.self c.load.new.machine) (sym (ap or_none found.resolves)) (f w lives mode);
 })

@@ -9,4 +9,4 @@ returns-then-is_end c = on_ok c.end_text.result c.end_text.ensures (λ f w t l l
 
 pub returns : goal.returns
 returns c = λ w t l lives mode is same.
-    line-replied w t l c.args.line.now c.args.text.items _ _ c.args.self.now _ _ lives mode is same (sym c.is_end.ensures ∙ c.if-is_end.false) c.in_ok-text.ensures refl refl refl refl refl
+    line-replied w t l c.args.line.now c.args.text.items _ _ c.args.self.now _ _ lives mode is same (sym c.is_end.ensures ∙ c.if-is_end.false) c.in_ok-text.ensures refl refl refl refl refl refl

@@ -1,0 +1,122 @@
+//! The draft: its listing, its edits, and how it becomes the present program.
+ghost use Rattle.std.specs.Prelude.{◌≡◌, ◌≤◌, ◌++◌, ℕ, List, length, Some, OnOk};
+ghost use Rattle.program_tree.specs.declared.program.Program.{Program as Tree};
+ghost use Rattle.simple_form.specs.Simple.{resolved};
+ghost use Rattle.pdp11_machine.specs.State.{State as MachineState};
+ghost use Rattle.dice_command.specs.Command.{Replace};
+ghost use Rattle.dice_session.specs.Reading.{OneStatement};
+ghost use Rattle.dice_session.specs.Readings.{AreNamed};
+ghost use Rattle.dice_session.specs.World.{World, Commands, listed_in, put_in, edited_in, applied_in, applied_by, edit_fault_text, line};
+ghost use Rattle.dice_session.specs.Lives.{Lives, Obeyed, Became};
+
+use crate::reading::read_statement;
+use crate::reply::{push_edited, push_full, refuse, refuse_edit};
+use crate::session::Session;
+use dice_base::{Name, NoMemory, Text};
+use pascal_print::print_program;
+use pascal_semantics::{Statement, code_words};
+use pdp11_machine::Machine;
+use program_tree::Stmt;
+use simple_form::{is_built, resolve_program};
+use std::alloc::Global;
+use tree_edit::replace;
+
+/// The words of the code area.
+const CODE_ROOM: u64 = 10_240;
+
+impl Session {
+    /// Lists the draft, with its names.
+    pub(crate) fn list(&mut self, alloc: Global, out: &mut Text) -> Result<(), NoMemory>
+        ensures { OnOk result ((w : World) (machine : MachineState) → Lives w self.old machine → Became (listed_in w.draft w) out.old out.new self.new machine) }
+    {
+        let Some(draft) = &self.draft else {
+            return refuse(alloc, out, b"no program");
+        };
+        let text = print_program(alloc, draft.tree(), true)?;
+        out.append(alloc, text.bytes())
+    }
+
+    /// Reads a statement, and puts it in the place of the one of this name in the draft.
+    pub(crate) fn replace(
+        &mut self,
+        alloc: Global,
+        name: u32,
+        text: &[u8],
+        out: &mut Text,
+    ) -> Result<(), NoMemory>
+        requires { length text.now ≤ 4096 }
+        ensures { OnOk result ((w : World) (machine : MachineState) → Lives w self.old machine → Obeyed w (Replace name text.now) out.old out.new self.new machine) }
+    {
+        match read_statement(alloc, text)? {
+            None => refuse(alloc, out, b"not built"),
+            Some(stmt) => self.put(alloc, name, &stmt, out),
+        }
+    }
+
+    fn put(&mut self, alloc: Global, name: u32, stmt: &Stmt, out: &mut Text) -> Result<(), NoMemory>
+        ensures { OnOk result ((w : World) (machine : MachineState) → Lives w self.old machine → Became (put_in w name (OneStatement stmt.now)) out.old out.new self.new machine) }
+    {
+        if is_built(alloc, self.draft.as_ref(), stmt)? {
+            self.edit(alloc, name, stmt, out)
+        } else {
+            refuse(alloc, out, b"not built")
+        }
+    }
+
+    fn edit(
+        &mut self,
+        alloc: Global,
+        name: u32,
+        stmt: &Stmt,
+        out: &mut Text,
+    ) -> Result<(), NoMemory>
+        ensures { OnOk result ((w : World) (machine : MachineState) → Lives w self.old machine → Became (edited_in w.draft w name stmt.now) out.old out.new self.new machine) }
+    {
+        let Some(draft) = &mut self.draft else {
+            return refuse(alloc, out, b"no program");
+        };
+        match replace(alloc, draft, Name(name), stmt) {
+            Ok(()) => push_edited(alloc, out, name),
+            Err(fault) => refuse_edit(alloc, out, fault),
+        }
+    }
+
+    /// The draft becomes the present program.
+    pub(crate) fn apply(
+        &mut self,
+        alloc: Global,
+        machine: &mut Machine,
+        out: &mut Text,
+    ) -> Result<(), NoMemory>
+        ensures { OnOk result ((w : World) → Lives w self.old machine.old → w.mode ≡ Commands → Became (applied_in w.draft w) out.old out.new self.new machine.new) }
+    {
+        let Some(draft) = &self.draft else {
+            return refuse(alloc, out, b"no program");
+        };
+        match resolve_program(alloc, draft)? {
+            Some(program) => self.apply_statements(alloc, program.statements, machine, out),
+            None => refuse(alloc, out, b"not built"),
+        }
+    }
+
+    fn apply_statements(
+        &mut self,
+        alloc: Global,
+        statements: Vec<Statement>,
+        machine: &mut Machine,
+        out: &mut Text,
+    ) -> Result<(), NoMemory>
+        requires { AreNamed statements.items }
+        ensures { OnOk result ((w : World) (p : Tree) → Lives w self.old machine.old → w.mode ≡ Commands → resolved p ≡ Some statements.items
+            → Became (applied_by (resolved p) w p) out.old out.new self.new machine.new) }
+    {
+        let words = code_words(&statements);
+        if words > CODE_ROOM {
+            return push_full(alloc, out, words);
+        }
+        if self.progress.is_halted() {
+            return refuse(alloc, out, b"not built");
+        }
+        self.begin(alloc, statements, machine, out)
+    }
+}
