@@ -190,12 +190,17 @@ fn parsed_statement(alloc: Global, text: &[u8]) -> Result<Option<Stmt>, NoMemory
     }
 }
 
-fn described(alloc: Global, text: &[u8]) -> Result<Text, NoMemory> {
+fn description(alloc: Global, found: &Option<Stmt>) -> Result<Text, NoMemory> {
     let mut out = Text::new(alloc);
-    if let Some(stmt) = parsed_statement(alloc, text)? {
-        describe(alloc, &stmt, &mut out)?;
+    if let Some(stmt) = found {
+        describe(alloc, stmt, &mut out)?;
     }
     Ok(out)
+}
+
+fn described(alloc: Global, text: &[u8]) -> Result<Text, NoMemory> {
+    let found = parsed_statement(alloc, text)?;
+    description(alloc, &found)
 }
 
 // Each with what it is, and nothing where there is no reading.

@@ -24,10 +24,60 @@ fn number(alloc: Global, n: u16) -> Expr {
     }
 }
 
-// `label 7; var v: integer; begin 7: for v := -1 downto -2 do v := -3; goto 7 end`, with names of no order.
-fn block(alloc: Global) -> Result<Block, NoMemory> {
+// `v := -3`
+fn assignment(alloc: Global) -> Result<Stmt, NoMemory> {
+    let access = Access {
+        ident: Text::from_slice(alloc, b"v")?,
+        parts: Items::new(alloc),
+    };
+    Ok(Stmt {
+        name: Name(40),
+        label: None,
+        kind: StmtKind::Assign(access, number(alloc, 3)),
+    })
+}
+
+// `7: for v := -1 downto -2 do v := -3`
+fn descent(alloc: Global, assign: Stmt) -> Result<Stmt, NoMemory> {
+    let body = Boxed::new(alloc, assign)?;
+    let ident = Text::from_slice(alloc, b"v")?;
+    let (first, last) = (number(alloc, 1), number(alloc, 2));
+    Ok(Stmt {
+        name: Name(30),
+        label: Some(7),
+        kind: StmtKind::For(ident, first, true, last, body),
+    })
+}
+
+// `begin 7: for v := -1 downto -2 do v := -3; goto 7 end`
+fn body(alloc: Global) -> Result<Stmt, NoMemory> {
+    let assign = assignment(alloc)?;
+    let mut stmts = Items::new(alloc);
+    stmts.push(descent(alloc, assign)?)?;
+    stmts.push(Stmt {
+        name: Name(5),
+        label: None,
+        kind: StmtKind::Goto(7),
+    })?;
+    Ok(Stmt {
+        name: Name(20),
+        label: None,
+        kind: StmtKind::Compound(stmts),
+    })
+}
+
+// `label 7`
+fn labels(alloc: Global) -> Result<Decl, NoMemory> {
     let mut labels = Items::new(alloc);
     labels.push(7)?;
+    Ok(Decl {
+        name: Name(9),
+        kind: DeclKind::LabelDecl(labels),
+    })
+}
+
+// `v: integer`
+fn variables(alloc: Global) -> Result<Items<Decl>, NoMemory> {
     let mut idents = Items::new(alloc);
     idents.push(Text::from_slice(alloc, b"v")?)?;
     let shape = TypeText::Named(Text::from_slice(alloc, b"integer")?);
@@ -36,43 +86,21 @@ fn block(alloc: Global) -> Result<Block, NoMemory> {
         name: Name(8),
         kind: DeclKind::VarDecl(idents, shape),
     })?;
-    let access = Access {
-        ident: Text::from_slice(alloc, b"v")?,
-        parts: Items::new(alloc),
-    };
-    let assign = Stmt {
-        name: Name(40),
-        label: None,
-        kind: StmtKind::Assign(access, number(alloc, 3)),
-    };
-    let ident = Text::from_slice(alloc, b"v")?;
-    let body = Boxed::new(alloc, assign)?;
-    let (first, last) = (number(alloc, 1), number(alloc, 2));
-    let mut stmts = Items::new(alloc);
-    stmts.push(Stmt {
-        name: Name(30),
-        label: Some(7),
-        kind: StmtKind::For(ident, first, true, last, body),
-    })?;
-    stmts.push(Stmt {
-        name: Name(5),
-        label: None,
-        kind: StmtKind::Goto(7),
-    })?;
+    Ok(vars)
+}
+
+// A block of these parts, with names of no order.
+fn block(alloc: Global) -> Result<Block, NoMemory> {
+    let labels = labels(alloc)?;
+    let vars = variables(alloc)?;
+    let body = body(alloc)?;
     Ok(Block {
-        labels: Some(Decl {
-            name: Name(9),
-            kind: DeclKind::LabelDecl(labels),
-        }),
+        labels: Some(labels),
         consts: Items::new(alloc),
         types: Items::new(alloc),
         vars,
         routines: Items::new(alloc),
-        body: Stmt {
-            name: Name(20),
-            label: None,
-            kind: StmtKind::Compound(stmts),
-        },
+        body,
     })
 }
 

@@ -21,8 +21,8 @@ fn compound(alloc: Global, first: Stmt) -> Result<Stmt, NoMemory> {
     Ok(unnamed(StmtKind::Compound(stmts)))
 }
 
-// `program p; var v: integer; begin begin ; end; end.`
-fn program(alloc: Global) -> Result<Program, NoMemory> {
+// `v: integer`
+fn variables(alloc: Global) -> Result<Items<Decl>, NoMemory> {
     let mut idents = Items::new(alloc);
     idents.push(Text::from_slice(alloc, b"v")?)?;
     let shape = TypeText::Named(Text::from_slice(alloc, b"integer")?);
@@ -31,10 +31,22 @@ fn program(alloc: Global) -> Result<Program, NoMemory> {
         name: Name(0),
         kind: DeclKind::VarDecl(idents, shape),
     })?;
+    Ok(vars)
+}
+
+// `begin begin ; end; end`
+fn nest(alloc: Global) -> Result<Stmt, NoMemory> {
     let inner = compound(alloc, unnamed(StmtKind::Empty))?;
-    let body = compound(alloc, inner)?;
+    compound(alloc, inner)
+}
+
+// `program p; var v: integer; begin begin ; end; end.`
+fn program(alloc: Global) -> Result<Program, NoMemory> {
+    let vars = variables(alloc)?;
+    let body = nest(alloc)?;
+    let ident = Text::from_slice(alloc, b"p")?;
     Ok(Program {
-        ident: Text::from_slice(alloc, b"p")?,
+        ident,
         files: Items::new(alloc),
         block: Block {
             labels: None,
@@ -81,8 +93,7 @@ fn names_in_the_order_of_the_text(rt: HostRuntime) -> Result<(), Fail> {
 #[test]
 fn a_statement_with_new_names(rt: HostRuntime) -> Result<(), Fail> {
     let alloc = rt.alloc();
-    let inner = compound(alloc, unnamed(StmtKind::Empty))?;
-    let stmt = compound(alloc, inner)?;
+    let stmt = nest(alloc)?;
     assert_eq!(rt; new_names(&stmt), 4);
     let (named, next) = name_stmt(alloc, Name(50), &stmt, 60)?;
     assert_eq!(rt; next, 64);
