@@ -1,5 +1,8 @@
 //! A source and a sink in memory, which fail at the calls that are listed.
-ghost use Rattle.std.specs.Prelude.{◌≡◌, ◌<◌, ◌≤◌, [], min, length, take, drop, Some, IfOk, vec_len};
+ghost use Rattle.std.specs.Prelude.{◌≡◌, ◌<◌, ◌≤◌, ◌-◌, [], min, length, take, drop, Some, false, IfOk, is_err, vec_len};
+ghost use Rattle.std.specs.Io.{ReadsAtMost, WritesAtMost};
+ghost use Rattle.std.specs.Io.KnownBytes.{ReadConsumes, WriteAppends};
+ghost use Rattle.dice_base.specs.Causes.{HasCause};
 
 use crate::{Failed, NoMemory, Sink, Source};
 use std::alloc::Global;
@@ -21,6 +24,7 @@ pub struct MemSource {
 #[derive(Drop)]
 pub struct MemSink {
     bytes: Vec<u8>,
+    room: usize,
     step: usize,
     fails: Vec<u32>,
     calls: u32,
@@ -39,7 +43,7 @@ fn copy_front(from: &[u8], to: &mut [u8], step: usize) -> usize
 }
 
 impl MemSource {
-    ghost use Rattle.dice_base.specs.Memory.{bytes_left, read_faults};
+    ghost use Rattle.dice_base.specs.Memory.{bytes_left, failing_reads, read_faults, read_step, reads};
 
     /// A source of these bytes. A read gives at most `step` of them, and fails at the calls whose numbers, counted
     /// from 1, are listed.
@@ -51,6 +55,9 @@ impl MemSource {
     ) -> Result<MemSource, NoMemory>
         requires { 0 < step }
         ensures left { IfOk result (λ source. bytes_left source ≡ bytes.now) }
+        ensures step { IfOk result (λ source. read_step source ≡ step) }
+        ensures fails { IfOk result (λ source. failing_reads source ≡ fails.now) }
+        ensures calls { IfOk result (λ source. reads source ≡ 0) }
         ensures faults { IfOk result (λ source. read_faults source ≡ 0) }
     {
         let bytes = bytes.to_vec(alloc)?;
@@ -67,14 +74,22 @@ impl MemSource {
 }
 
 impl Source for MemSource {
-    ghost use Rattle.std.specs.Prelude.{Some};
-    ghost use Rattle.dice_base.specs.Memory.{bytes_left, read_faults};
+    ghost use Rattle.dice_base.specs.Memory.{bytes_left, failing_reads, lists_next, next_call, read_faults, read_step, reads};
 
     ghost left = { λ s. Some (bytes_left s) };
 
     ghost faults = { read_faults };
 
-    fn read(&mut self, into: &mut [u8]) -> Result<usize, Failed> {
+    fn read(&mut self, into: &mut [u8]) -> Result<usize, Failed>
+        ensures bound { ReadsAtMost result into.new }
+        ensures bytes { ReadConsumes (Some (bytes_left self.old)) (Some (bytes_left self.new)) result into.new }
+        ensures cause { HasCause (read_faults self.old) (read_faults self.new) result }
+        ensures failed { is_err result ≡ lists_next (failing_reads self.old) (reads self.old) }
+        ensures count { IfOk result (λ n. n ≡ min (min (length (bytes_left self.old)) (length into.old)) (read_step self.old)) }
+        ensures calls { reads self.new ≡ next_call (reads self.old) }
+        ensures step { read_step self.new ≡ read_step self.old }
+        ensures fails { failing_reads self.new ≡ failing_reads self.old }
+    {
         self.calls = self.calls.saturating_add(1);
         if self.fails.contains(&self.calls) {
             self.faults = self.faults.saturating_add(1);
@@ -87,19 +102,24 @@ impl Source for MemSource {
 }
 
 impl MemSink {
-    ghost use Rattle.dice_base.specs.Memory.{bytes_held, write_faults};
+    ghost use Rattle.dice_base.specs.Memory.{bytes_held, failing_writes, room_of, write_faults, write_step, writes};
 
     /// An empty sink with room for so many bytes. A write takes at most `step` bytes, and fails at the calls whose
     /// numbers, counted from 1, are listed, and where the sink is full.
     pub fn new(alloc: Global, room: usize, step: usize, fails: &[u32]) -> Result<MemSink, NoMemory>
         requires { 0 < step }
         ensures held { IfOk result (λ sink. bytes_held sink ≡ []) }
+        ensures room { IfOk result (λ sink. room_of sink ≡ room) }
+        ensures step { IfOk result (λ sink. write_step sink ≡ step) }
+        ensures fails { IfOk result (λ sink. failing_writes sink ≡ fails.now) }
+        ensures calls { IfOk result (λ sink. writes sink ≡ 0) }
         ensures faults { IfOk result (λ sink. write_faults sink ≡ 0) }
     {
         let bytes = Vec::with_capacity(alloc, room)?;
         let fails = fails.to_vec(alloc)?;
         Ok(MemSink {
             bytes,
+            room,
             step,
             fails,
             calls: 0,
@@ -116,16 +136,27 @@ impl MemSink {
 }
 
 impl Sink for MemSink {
-    ghost use Rattle.std.specs.Prelude.{Some};
-    ghost use Rattle.dice_base.specs.Memory.{bytes_held, write_faults};
+    ghost use Rattle.dice_base.specs.Memory.{bytes_held, failing_writes, lists_next, next_call, room_of, write_faults, write_step, writes};
 
     ghost held = { λ s. Some (bytes_held s) };
 
     ghost faults = { write_faults };
 
-    fn write(&mut self, piece: &[u8]) -> Result<usize, Failed> {
+    // A write also fails where memory is refused.
+    fn write(&mut self, piece: &[u8]) -> Result<usize, Failed>
+        ensures bound { WritesAtMost result piece.now }
+        ensures some { IfOk result (λ n. 0 < length piece.now → 0 < n) }
+        ensures bytes { WriteAppends (Some (bytes_held self.old)) (Some (bytes_held self.new)) result piece.now }
+        ensures cause { HasCause (write_faults self.old) (write_faults self.new) result }
+        ensures failed { IfOk result (λ n. lists_next (failing_writes self.old) (writes self.old) ≡ false) }
+        ensures count { IfOk result (λ n. n ≡ min (min (length piece.now) (write_step self.old)) (room_of self.old - length (bytes_held self.old))) }
+        ensures calls { writes self.new ≡ next_call (writes self.old) }
+        ensures room { room_of self.new ≡ room_of self.old }
+        ensures step { write_step self.new ≡ write_step self.old }
+        ensures fails { failing_writes self.new ≡ failing_writes self.old }
+    {
         self.calls = self.calls.saturating_add(1);
-        let room = self.bytes.capacity() - self.bytes.len();
+        let room = self.room.saturating_sub(self.bytes.len());
         let count = piece.len().min(self.step).min(room);
         let refused = count == 0 && !piece.is_empty();
         if refused
