@@ -2,6 +2,7 @@
 #![tactic(auto)]
 
 mod byte;
+mod count;
 mod decimal;
 mod fault;
 mod link;
@@ -14,6 +15,7 @@ mod token;
 mod whole;
 
 pub use byte::{ByteClass, byte_class};
+pub use count::one_more;
 pub use decimal::push_decimal;
 pub use fault::{Failed, NoMemory};
 pub use link::{LinkTo, LinkWord};

@@ -86,3 +86,10 @@ fn classes(rt: HostRuntime) -> Result<(), Fail> {
     }
     Ok(())
 }
+
+#[test]
+fn counts(rt: HostRuntime) -> Result<(), Fail> {
+    assert_eq!(rt; one_more(0), Ok(1));
+    assert_eq!(rt; one_more(u32::MAX), Err(NoMemory));
+    Ok(())
+}

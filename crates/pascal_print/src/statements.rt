@@ -1,5 +1,5 @@
 //! Statements as events.
-ghost use Rattle.std.specs.Prelude.{◌≡◌, ◌+◌, ◌++◌, [], ◌∷◌, map, IfOk, OnOk};
+ghost use Rattle.std.specs.Prelude.{◌≡◌, ◌<◌, ◌+◌, ◌^◌, ◌++◌, [], ◌∷◌, map, OkIff, OnOk};
 ghost use Rattle.dice_base.specs.declared.token.TokenKind.TheVariants as token;
 ghost use Rattle.pascal_print.specs.Events as spec;
 ghost use Rattle.pascal_print.specs.Events.{said, child};
@@ -19,15 +19,12 @@ use program_tree::{Access, Arg, Arm, Constant, Expr, Stmt, StmtKind};
 use std::alloc::Global;
 use tree_text::{push_access, push_accesses, push_args, push_constants, push_expr};
 
-/// The level of what stands in an item of this level. Where it has no number, the tree is refused as if there were no
-/// memory.
+/// The level of what stands in an item of this level, where that has a number. Else the tree is refused as if there were
+/// no memory.
 pub fn deeper(level: usize) -> Result<usize, NoMemory>
-    ensures { IfOk result (λ n. n ≡ level + 1) }
+    ensures { OkIff result (level + 1 < 2 ^ 64) (level + 1) }
 {
-    if level == usize::MAX {
-        return Err(NoMemory);
-    }
-    Ok(level + 1)
+    level.checked_add(1).ok_or(NoMemory)
 }
 
 fn push_label(label: Option<u16>, out: &mut Events) -> Result<(), NoMemory>

@@ -2,26 +2,10 @@
 ghost use Rattle.std.specs.Prelude.{◌≡◌, ◌+◌, max, map, IfOk};
 ghost use Rattle.tree_edit.specs.Depth as spec;
 
-use dice_base::NoMemory;
+use dice_base::{NoMemory, one_more};
 use program_tree::{
     Access, AccessPart, AddPart, Arg, Expr, Factor, MulPart, SetMember, SumExpr, Term,
 };
-
-// Trees whose levels pass 32 bits are refused like those for which there is no memory.
-pub fn deeper(levels: u32) -> Result<u32, NoMemory>
-    ensures { IfOk result (λ n. n ≡ levels + 1) }
-{
-    if levels == u32::MAX {
-        return Err(NoMemory);
-    }
-    Ok(levels + 1)
-}
-
-pub fn greater(a: u32, b: u32) -> u32
-    ensures { result ≡ max a b }
-{
-    if a < b { b } else { a }
-}
 
 #[cycle(expr_depth)]
 #[tactic(auto, unfolding(crate::specs::Depth::expr_depth, crate::specs::Depth::rel_part_depth, crate::specs::Depth::sum_depth))]
@@ -33,7 +17,7 @@ pub fn expr_depth(expr: &Expr) -> Result<u32, NoMemory>
         None => Ok(first),
         Some(rel) => {
             let right = sum_depth(&rel.right)?;
-            Ok(greater(first, right))
+            Ok(first.max(right))
         }
     }
 }
@@ -45,7 +29,7 @@ fn sum_depth(sum: &SumExpr) -> Result<u32, NoMemory>
 {
     let first = term_depth(&sum.first)?;
     let rest = add_parts_depth(sum.rest.as_slice())?;
-    Ok(greater(first, rest))
+    Ok(first.max(rest))
 }
 
 #[cycle(expr_depth)]
@@ -55,7 +39,7 @@ fn add_parts_depth(parts: &[AddPart]) -> Result<u32, NoMemory>
     let mut most = 0;
     for part in parts {
         let levels = add_part_depth(part)?;
-        most = greater(most, levels);
+        most = most.max(levels);
     }
     Ok(most)
 }
@@ -75,7 +59,7 @@ fn term_depth(term: &Term) -> Result<u32, NoMemory>
 {
     let first = factor_depth(&term.first)?;
     let rest = mul_parts_depth(term.rest.as_slice())?;
-    Ok(greater(first, rest))
+    Ok(first.max(rest))
 }
 
 #[cycle(expr_depth)]
@@ -85,7 +69,7 @@ fn mul_parts_depth(parts: &[MulPart]) -> Result<u32, NoMemory>
     let mut most = 0;
     for part in parts {
         let levels = mul_part_depth(part)?;
-        most = greater(most, levels);
+        most = most.max(levels);
     }
     Ok(most)
 }
@@ -110,19 +94,19 @@ fn factor_depth(factor: &Factor) -> Result<u32, NoMemory>
         Factor::Access(access) => access_depth(access),
         Factor::Call(_, args) => {
             let inner = args_depth(args.as_slice())?;
-            deeper(inner)
+            one_more(inner)
         }
         Factor::Members(members) => {
             let inner = members_depth(members.as_slice())?;
-            deeper(inner)
+            one_more(inner)
         }
         Factor::Paren(expr) => {
             let inner = expr_depth(expr.get())?;
-            deeper(inner)
+            one_more(inner)
         }
         Factor::Not(operand) => {
             let inner = factor_depth(operand.get())?;
-            deeper(inner)
+            one_more(inner)
         }
     }
 }
@@ -134,7 +118,7 @@ fn members_depth(members: &[SetMember]) -> Result<u32, NoMemory>
     let mut most = 0;
     for member in members {
         let levels = member_depth(member)?;
-        most = greater(most, levels);
+        most = most.max(levels);
     }
     Ok(most)
 }
@@ -149,7 +133,7 @@ fn member_depth(member: &SetMember) -> Result<u32, NoMemory>
         None => Ok(first),
         Some(last) => {
             let last = expr_depth(last)?;
-            Ok(greater(first, last))
+            Ok(first.max(last))
         }
     }
 }
@@ -162,7 +146,7 @@ pub fn args_depth(args: &[Arg]) -> Result<u32, NoMemory>
     let mut most = 0;
     for arg in args {
         let levels = arg_depth(arg)?;
-        most = greater(most, levels);
+        most = most.max(levels);
     }
     Ok(most)
 }
@@ -177,7 +161,7 @@ fn arg_depth(arg: &Arg) -> Result<u32, NoMemory>
         None => Ok(value),
         Some(width) => {
             let width = expr_depth(width)?;
-            Ok(greater(value, width))
+            Ok(value.max(width))
         }
     }
 }
@@ -188,7 +172,7 @@ pub fn access_depth(access: &Access) -> Result<u32, NoMemory>
     ensures { IfOk result (λ n. n ≡ spec.access_depth access.now) }
 {
     let inner = access_parts_depth(access.parts.as_slice())?;
-    deeper(inner)
+    one_more(inner)
 }
 
 #[cycle(expr_depth)]
@@ -198,7 +182,7 @@ fn access_parts_depth(parts: &[AccessPart]) -> Result<u32, NoMemory>
     let mut most = 0;
     for part in parts {
         let levels = access_part_depth(part)?;
-        most = greater(most, levels);
+        most = most.max(levels);
     }
     Ok(most)
 }
@@ -222,7 +206,7 @@ fn exprs_depth(exprs: &[Expr]) -> Result<u32, NoMemory>
     let mut most = 0;
     for expr in exprs {
         let levels = expr_depth(expr)?;
-        most = greater(most, levels);
+        most = most.max(levels);
     }
     Ok(most)
 }

@@ -2,8 +2,8 @@
 ghost use Rattle.std.specs.Prelude.{◌≡◌, ◌+◌, max, map, IfOk};
 ghost use Rattle.tree_edit.specs.Depth as spec;
 
-use crate::depth::{access_depth, args_depth, deeper, expr_depth, greater};
-use dice_base::NoMemory;
+use crate::depth::{access_depth, args_depth, expr_depth};
+use dice_base::{NoMemory, one_more};
 use program_tree::{Access, Arm, Expr, Stmt, StmtKind};
 
 fn assign_depth(access: &Access, value: &Expr) -> Result<u32, NoMemory>
@@ -11,7 +11,7 @@ fn assign_depth(access: &Access, value: &Expr) -> Result<u32, NoMemory>
 {
     let access = access_depth(access)?;
     let value = expr_depth(value)?;
-    Ok(greater(access, value))
+    Ok(access.max(value))
 }
 
 fn accesses_depth(accesses: &[Access]) -> Result<u32, NoMemory>
@@ -20,7 +20,7 @@ fn accesses_depth(accesses: &[Access]) -> Result<u32, NoMemory>
     let mut most = 0;
     for access in accesses {
         let levels = access_depth(access)?;
-        most = greater(most, levels);
+        most = most.max(levels);
     }
     Ok(most)
 }
@@ -30,8 +30,8 @@ fn with_inner(expr: &Expr, inner: u32) -> Result<u32, NoMemory>
     ensures { IfOk result (λ n. n ≡ max (spec.expr_depth expr.now) (inner + 1)) }
 {
     let expr = expr_depth(expr)?;
-    let inner = deeper(inner)?;
-    Ok(greater(expr, inner))
+    let inner = one_more(inner)?;
+    Ok(expr.max(inner))
 }
 
 fn for_depth(first: &Expr, last: &Expr, inner: u32) -> Result<u32, NoMemory>
@@ -39,16 +39,16 @@ fn for_depth(first: &Expr, last: &Expr, inner: u32) -> Result<u32, NoMemory>
 {
     let first = expr_depth(first)?;
     let last = expr_depth(last)?;
-    let inner = deeper(inner)?;
-    Ok(greater(greater(first, last), inner))
+    let inner = one_more(inner)?;
+    Ok(first.max(last).max(inner))
 }
 
 fn with_depth(records: &[Access], inner: u32) -> Result<u32, NoMemory>
     ensures { IfOk result (λ n. n ≡ max (spec.most (map spec.access_depth records.now)) (inner + 1)) }
 {
     let records = accesses_depth(records)?;
-    let inner = deeper(inner)?;
-    Ok(greater(records, inner))
+    let inner = one_more(inner)?;
+    Ok(records.max(inner))
 }
 
 #[cycle(stmt_depth)]
@@ -58,7 +58,7 @@ fn stmts_depth(stmts: &[Stmt]) -> Result<u32, NoMemory>
     let mut most = 0;
     for stmt in stmts {
         let levels = stmt_depth(stmt)?;
-        most = greater(most, levels);
+        most = most.max(levels);
     }
     Ok(most)
 }
@@ -78,7 +78,7 @@ fn arms_depth(arms: &[Arm]) -> Result<u32, NoMemory>
     let mut most = 0;
     for arm in arms {
         let levels = arm_depth(arm)?;
-        most = greater(most, levels);
+        most = most.max(levels);
     }
     Ok(most)
 }
@@ -93,12 +93,12 @@ fn kind_depth(kind: &StmtKind) -> Result<u32, NoMemory>
         StmtKind::Assign(access, value) => assign_depth(access, value),
         StmtKind::Call(_, args) => {
             let inner = args_depth(args.as_slice())?;
-            deeper(inner)
+            one_more(inner)
         }
         StmtKind::Goto(_) => Ok(1),
         StmtKind::Compound(stmts) => {
             let inner = stmts_depth(stmts.as_slice())?;
-            deeper(inner)
+            one_more(inner)
         }
         StmtKind::If(test, yes, None) => {
             let inner = stmt_depth(yes.get())?;
@@ -107,7 +107,7 @@ fn kind_depth(kind: &StmtKind) -> Result<u32, NoMemory>
         StmtKind::If(test, yes, Some(no)) => {
             let yes = stmt_depth(yes.get())?;
             let no = stmt_depth(no.get())?;
-            with_inner(test, greater(yes, no))
+            with_inner(test, yes.max(no))
         }
         StmtKind::Case(selector, arms) => {
             let inner = arms_depth(arms.as_slice())?;

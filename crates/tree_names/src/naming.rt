@@ -3,7 +3,7 @@ ghost use Rattle.std.specs.Prelude.{◌≡◌, ◌+◌, IfOk};
 ghost use Rattle.tree_names.specs.Naming as spec;
 ghost use Rattle.tree_names.specs.Names.{Counts, names_within, program_names, renamed};
 
-use dice_base::{Name, NoMemory, Text};
+use dice_base::{Name, NoMemory, Text, one_more};
 use program_tree::{Access, Arg, Arm, Block, Decl, Expr, Program, Routine, Stmt, StmtKind};
 use sqlite_items::{Boxed, Items};
 use std::alloc::Global;
@@ -11,16 +11,6 @@ use tree_copies::{
     copy_access, copy_accesses, copy_args, copy_constants, copy_decl_kind, copy_expr, copy_heading,
     copy_texts,
 };
-
-// Programs whose names pass 32 bits are refused like those for which there is no memory.
-fn after(name: u32) -> Result<u32, NoMemory>
-    ensures { IfOk result (λ n. n ≡ name + 1) }
-{
-    if name == u32::MAX {
-        return Err(NoMemory);
-    }
-    Ok(name + 1)
-}
 
 fn copy_assign(alloc: Global, access: &Access, value: &Expr) -> Result<StmtKind, NoMemory>
     ensures { IfOk result (λ r. r ≡ StmtKind.Assign access.now value.now) }
@@ -204,7 +194,7 @@ fn number_stmt(alloc: Global, stmt: &Stmt, next: u32) -> Result<(Stmt, u32), NoM
     ensures { IfOk result (λ r. r ≡ spec.stmt_numbered stmt.now next) }
 {
     let label = stmt.label;
-    let inner = after(next)?;
+    let inner = one_more(next)?;
     let (kind, last) = number_kind(alloc, &stmt.kind, inner)?;
     let stmt = Stmt {
         name: Name(next),
@@ -251,7 +241,7 @@ fn number_kind(alloc: Global, kind: &StmtKind, next: u32) -> Result<(StmtKind, u
 fn number_decl(alloc: Global, decl: &Decl, next: u32) -> Result<(Decl, u32), NoMemory>
     ensures { IfOk result (λ r. r ≡ spec.decl_numbered decl.now next) }
 {
-    let last = after(next)?;
+    let last = one_more(next)?;
     let kind = copy_decl_kind(alloc, &decl.kind)?;
     let decl = Decl {
         name: Name(next),
@@ -295,7 +285,7 @@ fn after_labels(labels: &Option<Decl>, next: u32) -> Result<u32, NoMemory>
 {
     match labels {
         None => Ok(next),
-        Some(_) => after(next),
+        Some(_) => one_more(next),
     }
 }
 
@@ -344,7 +334,7 @@ fn number_routine(alloc: Global, routine: &Routine, next: u32) -> Result<(Routin
     ensures { IfOk result (λ r. r ≡ spec.routine_numbered routine.now next) }
 {
     let name = Name(next);
-    let next = after(next)?;
+    let next = one_more(next)?;
     let heading = copy_heading(alloc, &routine.heading)?;
     match &routine.block {
         None => Ok((
