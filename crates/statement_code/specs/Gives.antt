@@ -3,6 +3,7 @@
 -- the run-time error inside it.
 use Rattle.std.specs.Prelude.{◌≡◌, ℕ, ◌+◌, ◌<◌, ◌≤◌, List, length, slice_index}
 use Rattle.console_service.specs.Cpu.{Cpu, HasAt, Keeps, Comes, globals_begin, stack_begin, memory_end}
+use Rattle.code_image.specs.Image.{trap_word}
 use Rattle.pascal_semantics.specs.Step.{Result, Value, Error}
 
 -- the value is pushed, and the program goes on behind the words
@@ -13,10 +14,6 @@ pub record Pushed (len : ℕ) (c d : Cpu) (v : ℕ) : Type 0 where
   pub stack : d.sp + 1 ≡ c.sp
   pub place : d.pc ≡ c.pc + len
   pub top : slice_index d.mem d.sp ≡ v
-
--- the word of the trap of a run-time error
-abbrev pub trap_word : ℕ → ℕ
-trap_word number = 35072 + number
 
 -- the program stands at the error's trap, in the words
 pub record Trapped (len : ℕ) (c d : Cpu) (number : ℕ) : Type 0 where
