@@ -4,7 +4,7 @@ ghost use Rattle.named_program.specs.Lookups.{entry_of, index_of, path_in};
 ghost use Rattle.named_program.specs.Rows.{any_rows, arm_rows, block_rows, decl_rows, kind_rows, routine_rows, rows_from, stmt_rows};
 ghost use Rattle.named_program.specs.Entries.{AddsRows};
 
-use dice_base::{Name, NoMemory};
+use dice_base::{Name, NoMemory, one_more};
 use program_tree::{Arm, Block, Decl, Program as Tree, Routine, Stmt, StmtKind};
 use sqlite_items::Items;
 use std::alloc::Global;
@@ -14,16 +14,6 @@ use std::alloc::Global;
 pub struct Entry {
     pub name: Name,
     pub path: Items<u32>,
-}
-
-// Programs in which a place passes 32 bits are refused like those for which there is no memory.
-fn after(at: u32) -> Result<u32, NoMemory>
-    ensures { IfOk result (λ n. n ≡ at + 1) }
-{
-    if at == u32::MAX {
-        return Err(NoMemory);
-    }
-    Ok(at + 1)
 }
 
 // The path of the part at this place.
@@ -114,7 +104,7 @@ fn push_stmts(
     let mut at = 0;
     for stmt in stmts {
         push_part(alloc, stmt, path, at, out)?;
-        at = after(at)?;
+        at = one_more(at)?;
     }
     Ok(())
 }
@@ -145,7 +135,7 @@ fn push_arms(
     let mut at = 0;
     for arm in arms {
         push_arm(alloc, arm, path, at, out)?;
-        at = after(at)?;
+        at = one_more(at)?;
     }
     Ok(())
 }
@@ -176,7 +166,7 @@ fn push_decls(
     let mut next = at;
     for decl in decls {
         push_decl(alloc, decl, path, next, out)?;
-        next = after(next)?;
+        next = one_more(next)?;
     }
     Ok(next)
 }
@@ -248,7 +238,7 @@ fn push_routines(
     let mut next = at;
     for routine in routines {
         push_routine(alloc, routine, path, next, out)?;
-        next = after(next)?;
+        next = one_more(next)?;
     }
     Ok(next)
 }
