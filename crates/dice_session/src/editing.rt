@@ -11,7 +11,7 @@ ghost use Rattle.dice_session.specs.Lives.{Lives, Obeyed, Became};
 
 use crate::reading::read_statement;
 use crate::reply::{push_edited, push_full, refuse, refuse_edit};
-use crate::session::Session;
+use crate::session::{CODE_ROOM, Session};
 use dice_base::{Name, NoMemory, Text};
 use pascal_print::print_program;
 use pascal_semantics::{Statement, code_words};
@@ -20,9 +20,6 @@ use program_tree::Stmt;
 use simple_form::{is_built, resolve_program};
 use std::alloc::Global;
 use tree_edit::replace;
-
-/// The words of the code area.
-const CODE_ROOM: u64 = 10_240;
 
 impl Session {
     /// Lists the draft, with its names.

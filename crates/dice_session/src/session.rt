@@ -26,7 +26,7 @@ use pdp11_machine::Machine;
 use std::alloc::Global;
 
 /// The words of the code area.
-const CODE_ROOM: u64 = 10_240;
+pub(crate) const CODE_ROOM: u64 = 10_240;
 
 /// A session: the present program, the draft, and what the next line of the script is. The program's state is that of
 /// the machine and the console.

@@ -6,9 +6,10 @@ use crate::reading::{Found, read_program};
 use crate::reply::{push_ending, push_loaded, push_written};
 use crate::running::run;
 use console_service::Console;
-use dice_base::Text;
+use dice_base::{NoMemory, Text};
 use pascal_semantics::{Operand, SimpleForm, Statement, Sum};
 use pdp11_machine::Machine;
+use std::alloc::Global;
 use std::test::Fail;
 use target_monitor::GoEnd;
 
@@ -394,27 +395,33 @@ fn answers_a_line(rt: HostRuntime) -> Result<(), Fail> {
     Ok(())
 }
 
+// The statements of the program that is read, and the name of its next item.
+fn read(alloc: Global, text: &[u8]) -> Result<Option<(Vec<Statement>, u32)>, NoMemory> {
+    match read_program(alloc, text)? {
+        Found::Program(program, statements) => Ok(Some((statements, program.next_name()))),
+        Found::TooLong | Found::NotBuilt => Ok(None),
+    }
+}
+
+// `program m; var x, y: integer; begin begin y := x end; end.`
+const COPYING: [Statement; 2] = [
+    Statement {
+        name: 5,
+        form: SimpleForm::Assign(1, FIRST_VARIABLE),
+    },
+    Statement {
+        name: 6,
+        form: SimpleForm::Empty,
+    },
+];
+
 #[test]
 fn reads_programs(rt: HostRuntime) -> Result<(), Fail> {
     let text = b"program m; var x, y: integer; begin begin y := x end; end.";
-    let Found::Program(program, statements) = read_program(rt.alloc(), text)? else {
+    let Some((statements, next)) = read(rt.alloc(), text)? else {
         panic!(rt; "no program");
     };
-    let variable = Sum {
-        first: Operand::Global(0),
-        second: None,
-    };
-    let expected = [
-        Statement {
-            name: 5,
-            form: SimpleForm::Assign(1, variable),
-        },
-        Statement {
-            name: 6,
-            form: SimpleForm::Empty,
-        },
-    ];
-    assert_eq!(rt; statements.as_slice(), expected.as_slice());
-    assert_eq!(rt; program.next_name(), 7);
+    assert_eq!(rt; statements.as_slice(), COPYING.as_slice());
+    assert_eq!(rt; next, 7);
     Ok(())
 }
