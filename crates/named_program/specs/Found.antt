@@ -1,6 +1,6 @@
 -- What is found by a name is what the rows say.
-use Rattle.std.specs.Prelude.{◌≡◌, ◌≢◌, ℕ, List, Some, Contains}
-use Rattle.std.specs.List.{AllByRecursion}
+use Rattle.std.specs.Prelude.{◌≡◌, ◌≢◌, ℕ, List, Some, Contains, map, eqb}
+use Rattle.std.specs.List.{AllByRecursion, IsDistinct}
 use Rattle.program_tree.specs.declared.program.Program.{Program as Tree}
 use Rattle.program_tree.specs.Tokens.{Toks}
 use Rattle.named_program.specs.Paths.{ItemValue, tree_at, item_name}
@@ -20,3 +20,7 @@ HasNoRow n rows = AllByRecursion (λ r. r.name ≢ n) rows
 -- some row has the name and the own text
 abbrev pub HasRow : ℕ → Toks → List Row → Type 0
 HasRow n own rows = (path : List ℕ) × Contains rows (record { path = path; name = n; own = own })
+
+-- no two rows have the same name
+abbrev pub HaveOwnNames : List Row → Type 0
+HaveOwnNames rows = IsDistinct eqb (map (λ r. r.name) rows)

@@ -3,7 +3,7 @@ ghost use Rattle.std.specs.Prelude.{◌≡◌, ◌≤◌, IfOk, MatchOption, opt
 ghost use Rattle.tree_names.specs.Names.{Counts, program_names};
 ghost use Rattle.tree_names.specs.Naming.{numbered};
 ghost use Rattle.named_program.specs.Named.{IsNamed};
-ghost use Rattle.named_program.specs.Found.{HasNoRow, HasRow};
+ghost use Rattle.named_program.specs.Found.{HasNoRow, HasRow, HaveOwnNames};
 ghost use Rattle.named_program.specs.Paths.{last_place};
 ghost use Rattle.named_program.specs.Rows.{own_text, program_rows};
 ghost use Rattle.named_program.specs.Lookups.{around, item_named, item_value, path_of, parent_of, place_in, sequence_of};
@@ -149,8 +149,10 @@ impl Program {
     }
 
     // The item with this name, if there is one.
+    #[tactic(auto, using(crate::proofs::RowNames::once_each))]
     fn item_named(&self, name: Name) -> Option<Item<'_>>
-        ensures { option_map item_value result ≡ item_named name.0 self.now }
+        ensures value { option_map item_value result ≡ item_named name.0 self.now }
+        ensures once { HaveOwnNames (program_rows self.now) }
     {
         match self.path_of(name) {
             Some(path) => find_at(Item::OfProgram(&self.tree), path),
@@ -162,6 +164,7 @@ impl Program {
     pub fn find(&self, name: Name) -> Option<Item<'_>>
         ensures value { option_map item_value result ≡ item_named name.0 self.now }
         ensures rows { MatchOption result (HasNoRow name.0 (program_rows self.now)) (λ x. HasRow name.0 (own_text (item_value x)) (program_rows self.now)) }
+        ensures once { HaveOwnNames (program_rows self.now) }
     {
         self.item_named(name)
     }
