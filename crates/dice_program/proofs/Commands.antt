@@ -1,6 +1,6 @@
 -- Lists of commands, one behind the other.
 use Rattle.std.proofs.Common.{◌≡◌, ℕ, List, [], ◌∷◌, ◌++◌, refl, sym, ap, subst, ◌∙◌, append_assoc, append-nil}
-use Rattle.dice_session.specs.World.{World, Mode, Over, Command, Nothing, Reads, ReadsAll, reply_of, replies_from, world_after, missing_end, empty_world, AreCommands}
+use Rattle.dice_session.specs.World.{World, Mode, Over, Command, Nothing, Reads, ReadsAll, reply_of, replies_from, world_after, missing_end}
 
 pub after-append : (w : World) (cs ds : List Command) → world_after w (cs ++ ds) ≡ world_after (world_after w cs) ds
 after-append w [] ds = refl

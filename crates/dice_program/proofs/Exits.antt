@@ -1,27 +1,24 @@
 -- The ways that a run ends.
-use Rattle.std.proofs.Common.{◌≡◌, ◌<◌, ◌≤◌, ◌⊎◌, ℕ, ◌+◌, ◌-◌, List, [], ◌∷◌, ◌++◌, Ok, Err, Result, length, length-append, map, refl, sym, ap, subst, ◌∙◌, append_assoc, append-nil, arith, inl, inr}
-use Rattle.std.proofs.lemmas.List.{map-append, length-map}
+use Rattle.std.proofs.Common.{◌≡◌, ◌<◌, ◌≤◌, ℕ, ◌+◌, ◌-◌, List, [], ◌∷◌, ◌++◌, Err, length, length-append, map, refl, sym, ap, subst, ◌∙◌, append_assoc, append-nil, arith, inl, inr}
+use Rattle.std.proofs.lemmas.List.{length-map}
 use Rattle.std.specs.declared.option.Option.{Option}
-use Rattle.std.specs.Io.KnownBytes.{Keeps, Appends, Consumes, IsAtEnd}
+use Rattle.std.specs.Io.KnownBytes.{Keeps, Appends, IsAtEnd}
 use Rattle.dice_base.specs.Known.{Consumes-nil, Consumes-trans, Appends-nil, Appends-trans, Appends-kept}
 use Rattle.dice_base.specs.Lines.{NoFeed, NoFeeds, joined, some_line}
-use Rattle.dice_base.specs.Part.{WritesPart}
 use Rattle.script_lines.specs.Front.{strip}
-use Rattle.script_lines.specs.Took.{WholeLine, LastLine, PastRoom, Broken}
+use Rattle.script_lines.specs.Took.{LastLine, PastRoom, Broken}
 use Rattle.pdp11_machine.specs.State.{State as MachineState}
 use Rattle.dice_session.specs.declared.session.Session.{Session}
-use Rattle.dice_session.specs.World.{World, Over, Command, ReadsAll, AreCommands, empty_world, reply_of, replies_from, world_after, missing_end, transcript_of, last_world}
+use Rattle.dice_session.specs.World.{World, Over, Command, ReadsAll, empty_world, reply_of, world_after, missing_end, transcript_of, last_world}
 use Rattle.dice_session.specs.Lives.{Lives, Stands}
-use Rattle.dice_program.specs.declared.serve.Ending.{Ending}
-use Rattle.dice_program.specs.declared.serve.Ending.TheVariants.{Done, TooMany}
 use Rattle.dice_program.specs.declared.serve.Fault.{Fault}
 use Rattle.dice_program.specs.declared.serve.Fault.TheVariants.{ReadFault, WriteFault, NoMemory}
 use Rattle.dice_program.specs.Script.{MAX_BYTES, MAX_LINES, ended_lines, lines_in, acted_within, acted, IsTooLong}
-use Rattle.dice_program.specs.Turns.{CutShort, AnsweredAll, AnswersSome, Stepped, AtEnd, CutLine, CutEnd, Unanswered, IsMore, IsNoMore}
-use Rattle.dice_program.specs.Top.{IsScript, IsQuit, Begins, IsDone, IsTooMany, IsBroken, AppendsPart, IsCut, IsShort, Serves}
-use Rattle.dice_program.proofs.Pieces.{ended-joined, ended-plain, lines-joined, lines-plain, acted-last, acted-past, acted-none, some-few, whole-more, last-more}
+use Rattle.dice_program.specs.Turns.{AnsweredAll, AnswersSome, Stepped, CutLine, CutEnd, Unanswered, IsMore}
+use Rattle.dice_program.specs.Top.{IsScript, Begins, IsDone, IsTooMany, IsBroken, IsCut, IsShort, Serves}
+use Rattle.dice_program.proofs.Pieces.{ended-joined, ended-plain, lines-joined, lines-plain, acted-last, acted-past, acted-none, whole-more, last-more}
 use Rattle.dice_program.proofs.Commands.{after-append, replies-append, reads-append, after-push, replies-push, reads-push, nothings, over-after, over-replies, over-reads, over-missing}
-use Rattle.dice_program.proofs.Serving.{Serving, Longer, longer-lines, so_far, Known, known, known-end}
+use Rattle.dice_program.proofs.Serving.{Serving, longer-lines, so_far, known, known-end}
 
 -- the script begins with the lines that were read, and so with their commands
 pub begins : (lines : List (List ℕ)) (commands : List Command) (rest : List ℕ) (room more : ℕ) → NoFeeds lines → MAX_BYTES ≡ length (joined lines) + room

@@ -1,19 +1,19 @@
 -- A run in its middle.
-use Rattle.std.proofs.Common.{◌≡◌, ◌≤◌, ℕ, ◌+◌, ◌-◌, List, [], ◌∷◌, ◌++◌, None, Some, IfSome, length, length-append, map, refl, sym, ap, subst, ◌∙◌, append-nil, arith}
+use Rattle.std.proofs.Common.{◌≡◌, ℕ, ◌+◌, ◌-◌, List, [], ◌∷◌, ◌++◌, None, Some, length, length-append, map, refl, sym, ap, subst, ◌∙◌, append-nil, arith}
 use Rattle.std.proofs.lemmas.List.{map-append}
 use Rattle.std.specs.declared.option.Option.{Option}
 use Rattle.std.specs.Io.KnownBytes.{Appends, Consumes, IsAtEnd}
 use Rattle.dice_base.specs.Known.{Consumes-nil, Consumes-trans, Appends-nil, Appends-trans}
-use Rattle.dice_base.specs.Lines.{NoFeed, NoFeeds, joined, some_line}
+use Rattle.dice_base.specs.Lines.{NoFeeds, joined}
 use Rattle.dice_base.specs.LinesLaws.{joined-push, NoFeeds-push}
 use Rattle.script_lines.specs.Front.{strip}
-use Rattle.script_lines.specs.Took.{WholeLine, LastLine}
+use Rattle.script_lines.specs.Took.{WholeLine}
 use Rattle.pdp11_machine.specs.State.{State as MachineState}
 use Rattle.dice_session.specs.declared.session.Session.{Session}
-use Rattle.dice_session.specs.World.{World, Over, Command, ReadsAll, Reads, empty_world, reply_of, replies_from, world_after}
+use Rattle.dice_session.specs.World.{Over, Command, ReadsAll, Reads, empty_world, reply_of, replies_from, world_after}
 use Rattle.dice_session.specs.Lives.{Lives}
 use Rattle.dice_program.specs.Script.{MAX_BYTES, MAX_LINES, acted_within, acted}
-use Rattle.dice_program.specs.Turns.{Answered, Stepped}
+use Rattle.dice_program.specs.Turns.{Stepped}
 use Rattle.dice_program.specs.Top.{IsScript}
 use Rattle.dice_program.proofs.Pieces.{acted-joined}
 use Rattle.dice_program.proofs.Commands.{after-push, replies-push, reads-push}

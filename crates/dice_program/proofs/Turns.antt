@@ -1,23 +1,21 @@
 -- From an answer to a turn.
-use Rattle.std.proofs.Common.{◌≡◌, ◌==◌, ◌<◌, ◌≤◌, ◌⊎◌, ℕ, ◌+◌, Bool, true, false, List, [], ◌∷◌, ◌++◌, Ok, Err, Result, length, take, refl, sym, ap, subst, ◌∙◌, append-nil, arith, inl, inr}
+use Rattle.std.proofs.Common.{◌≡◌, ◌==◌, ◌<◌, ℕ, ◌+◌, true, false, List, [], ◌∷◌, ◌++◌, Ok, Err, Result, length, take, refl, sym, ap, subst, ◌∙◌, append-nil, arith, inl, inr}
 use Rattle.std.proofs.lemmas.Bool.{eqb-true}
 use Rattle.std.proofs.lemmas.List.{take-take, length-take}
 use Rattle.std.specs.declared.option.Option.{Option}
-use Rattle.std.specs.Io.KnownBytes.{Keeps, Appends}
+use Rattle.std.specs.Io.KnownBytes.{Appends}
 use Rattle.dice_base.specs.Known.{Appends-nil}
 use Rattle.dice_base.specs.Lines.{some_line}
 use Rattle.dice_base.specs.Part.{WritesPart}
 use Rattle.script_lines.specs.Front.{strip, kept_bytes, longest_text, SameFront}
-use Rattle.script_lines.specs.Took.{WholeLine, LastLine, PastRoom}
+use Rattle.script_lines.specs.Took.{WholeLine, LastLine}
 use Rattle.pdp11_machine.specs.State.{State as MachineState}
 use Rattle.dice_session.specs.declared.session.Session.{Session}
-use Rattle.dice_session.specs.World.{World, Mode, Over, reply_of, end_line, missing_end}
-use Rattle.dice_session.specs.Lives.{Lives, Replied, IsOver, ending_if}
-use Rattle.dice_program.specs.declared.serve.Turn.{Turn}
-use Rattle.dice_program.specs.declared.serve.Turn.TheVariants.{On, Quit, Last, TooFar}
+use Rattle.dice_session.specs.World.{World, reply_of}
+use Rattle.dice_session.specs.Lives.{Lives, Replied}
 use Rattle.dice_program.specs.declared.serve.Fault.{Fault}
 use Rattle.dice_program.specs.declared.serve.Fault.TheVariants.{ReadFault, WriteFault, NoMemory}
-use Rattle.dice_program.specs.Turns.{Answered, CutShort, Answers, AnsweredAll, AnswersSome, Stepped, AtEnd, CutLine, CutEnd, Unanswered, Turns, IsMore, IsNoMore}
+use Rattle.dice_program.specs.Turns.{Answered, CutShort, Answers, AnsweredAll, AnswersSome, Turns, IsMore, IsNoMore}
 
 pub answered : (w : World) (l before after written : List ℕ) (s : Session) (m : MachineState) (h k : Option (List ℕ)) → Replied w l before after s m → before ≡ [] → written ≡ after
     → Appends h k written → Answered w l s m h k

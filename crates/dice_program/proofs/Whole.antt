@@ -1,27 +1,23 @@
 -- From one turn to the whole run.
-use Rattle.std.proofs.Common.{◌≡◌, ◌<◌, ◌≤◌, ◌⊎◌, ℕ, ◌+◌, ◌-◌, List, [], ◌∷◌, ◌++◌, None, Some, Ok, Err, Result, length, refl, sym, ap, subst, arith, inl, inr}
+use Rattle.std.proofs.Common.{◌≡◌, ◌≤◌, ℕ, ◌+◌, ◌-◌, List, [], None, Some, Err, length, refl, sym, ap, subst, arith, inl, inr}
 use Rattle.std.specs.declared.option.Option.{Option}
 use Rattle.std.specs.Io.KnownBytes.{Keeps}
 use Rattle.dice_base.specs.Lines.{some_line}
-use Rattle.script_lines.specs.Took.{LastLine}
 use Rattle.script_lines.specs.declared.line.LineFault.{LineFault}
 use Rattle.script_lines.specs.declared.line.LineFault.TheVariants.{SourceFailed}
 use Rattle.script_lines.specs.declared.line.LineFault.TheVariants as line
 use Rattle.pdp11_machine.specs.State.{State as MachineState}
 use Rattle.dice_session.specs.declared.session.Session.{Session}
-use Rattle.dice_session.specs.World.{World, empty_world, world_after}
-use Rattle.dice_session.specs.Lives.{Lives}
-use Rattle.dice_program.specs.declared.serve.Ending.{Ending}
-use Rattle.dice_program.specs.declared.serve.Ending.TheVariants.{Done, TooMany}
+use Rattle.dice_session.specs.World.{empty_world, world_after}
 use Rattle.dice_program.specs.declared.serve.Fault.{Fault}
 use Rattle.dice_program.specs.declared.serve.Fault.TheVariants.{ReadFault, WriteFault, NoMemory}
 use Rattle.dice_program.specs.Script.{MAX_LINES}
 use Rattle.dice_program.specs.Turns.{AnsweredAll, Unanswered, AtEnd, Turns, Finals, IsNoMore, fault_of}
-use Rattle.dice_program.specs.Top.{Serves, IsDone, IsTooMany}
+use Rattle.dice_program.specs.Top.{Serves}
 use Rattle.dice_program.proofs.Pieces.{some-few}
 use Rattle.dice_program.proofs.Turns.{none-answered}
 use Rattle.dice_program.proofs.Serving.{Serving}
-use Rattle.dice_program.proofs.Exits.{short, broken, cut-line, cut-end, AtClose, at-close, too-many}
+use Rattle.dice_program.proofs.Exits.{short, broken, cut-line, cut-end, AtClose, at-close}
 
 keeps-refl : (h : Option (List ℕ)) → Keeps h h
 keeps-refl None = tt

@@ -1,5 +1,5 @@
 -- The lines of a script.
-use Rattle.std.specs.Prelude.{◌<◌, ◌≤◌, ◌⊎◌, ℕ, ◌-◌, if◌then◌else◌, List, [], ◌∷◌, ◌++◌, length, take, map, slice_index_or, nat_lt}
+use Rattle.std.specs.Prelude.{◌<◌, ◌≤◌, ◌⊎◌, ℕ, ◌-◌, if◌then◌else◌, List, [], ◌++◌, length, take, map, slice_index_or, nat_lt}
 use Rattle.dice_base.specs.Lines.{pieces, whole_lines, some_line}
 use Rattle.script_lines.specs.Front.{strip}
 

@@ -1,5 +1,5 @@
 -- What one turn of a run reads, does and writes.
-use Rattle.std.specs.Prelude.{◌≡◌, ◌<◌, ◌⊎◌, ℕ, ◌+◌, true, false, List, [], ◌∷◌, length, Result, Ok, Err}
+use Rattle.std.specs.Prelude.{◌≡◌, ◌<◌, ◌⊎◌, ℕ, true, false, List, [], ◌∷◌, length, Result, Ok, Err}
 use Rattle.std.specs.declared.option.Option.{Option}
 use Rattle.std.specs.Io.KnownBytes.{Keeps, Appends}
 use Rattle.dice_base.specs.Lines.{some_line}
@@ -11,7 +11,7 @@ use Rattle.script_lines.specs.declared.line.LineFault.TheVariants.{SourceFailed}
 use Rattle.script_lines.specs.declared.line.LineFault.TheVariants as line
 use Rattle.pdp11_machine.specs.State.{State as MachineState}
 use Rattle.dice_session.specs.declared.session.Session.{Session}
-use Rattle.dice_session.specs.World.{World, Command, Reads, ReadsAll, reply_of, replies_from, world_after, missing_end}
+use Rattle.dice_session.specs.World.{World, Command, Reads, ReadsAll, reply_of, replies_from, world_after}
 use Rattle.dice_session.specs.Lives.{Lives, IsOver}
 use Rattle.dice_program.specs.declared.serve.Turn.{Turn}
 use Rattle.dice_program.specs.declared.serve.Turn.TheVariants.{On, Quit, Last, TooFar}

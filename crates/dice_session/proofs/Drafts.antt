@@ -1,5 +1,5 @@
 -- The draft and its world: its listing, its edits, and how it becomes the present program.
-use Rattle.std.proofs.Common.{◌≡◌, ◌<◌, ◌≤◌, ℕ, ◌+◌, Bool, true, false, List, [], ◌∷◌, ◌++◌, Option, Some, None, Result, Ok, Err, refl, sym, ap, subst, ◌∙◌, arith}
+use Rattle.std.proofs.Common.{◌≡◌, ◌<◌, ◌≤◌, ℕ, ◌+◌, true, false, List, [], ◌++◌, Option, Some, None, Ok, Err, refl, sym, ap, subst, ◌∙◌}
 use Rattle.std.specs.Prelude.{codes, if◌then◌else◌}
 use Rattle.std.specs.Fmt.{decimal}
 use Rattle.std.specs.Option.{option_map}
@@ -8,7 +8,7 @@ use Rattle.program_tree.specs.declared.program.Program.{Program as Tree}
 use Rattle.program_tree.specs.declared.stmt.Stmt.{Stmt}
 use Rattle.pascal_semantics.specs.declared.form.Statement.{Statement}
 use Rattle.pascal_semantics.specs.Charge.{program_charge, charges_of}
-use Rattle.pascal_semantics.specs.State.{State, Status, NotStarted, Halted, Ended, Failed, loaded_state}
+use Rattle.pascal_semantics.specs.State.{Status, NotStarted, Halted, Ended, Failed, loaded_state}
 use Rattle.pascal_semantics.specs.Valid.{IsProgram, code_room}
 use Rattle.pascal_print.specs.Listing.{listing}
 use Rattle.simple_form.specs.Simple.{resolved, variables_in, is_built}
@@ -18,9 +18,8 @@ use Rattle.dice_session.specs.Reading.{OneStatement}
 use Rattle.dice_session.specs.World.{World, Mode, Commands, Loading, Over, line, loaded, loaded_reply, statements_of, or_none, refused, with_program, if_fits, full_words, is_halted_by, applied_to, applied_by, applied_in, edited_to, edited_in, edit_fault_text, put_in, listed_in}
 use Rattle.dice_session.specs.World as world
 use Rattle.dice_session.specs.Simulates.{StandsFor}
-use Rattle.dice_session.specs.Lives.{HasMode, HasStatements, HasProgram, StandsBy, Lives, Became}
-use Rattle.dice_session.specs.Progress.{progress_by, progress_of, is_halted}
-use Rattle.dice_session.specs.declared.progress.Progress.{Progress}
+use Rattle.dice_session.specs.Lives.{HasMode, HasStatements, HasProgram, Lives, Became}
+use Rattle.dice_session.specs.Progress.{progress_by, is_halted}
 use Rattle.dice_session.specs.declared.progress.Progress.TheVariants as progress
 use Rattle.dice_session.specs.declared.session.Session.{Session}
 use Rattle.dice_session.proofs.Sessions.{fitting, full-became}

@@ -10,7 +10,7 @@ use Rattle.pascal_semantics.specs.State.{loaded_state}
 use Rattle.pascal_semantics.specs.Run.{settled, driven, run_of}
 use Rattle.dice_command.specs.Command.{Listing, Apply, Run, Quit, Unbuilt}
 use Rattle.dice_session.specs.Reading.{TooLong, NotBuilt, NoStatement}
-use Rattle.dice_session.specs.World.{Command, Line, Puts, TextLine, TextEnd, Nothing, line, loaded_reply, run_reply, reply_of, transcript_of}
+use Rattle.dice_session.specs.World.{Line, Puts, TextEnd, Nothing, line, loaded_reply, run_reply, reply_of, transcript_of}
 
 -- the reply to a run of so many gates from the start
 abbrev told_of : List Statement → ℕ → List ℕ

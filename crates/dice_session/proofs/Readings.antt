@@ -1,17 +1,16 @@
 -- Tokens and texts as programs and statements.
-use Rattle.std.proofs.Common.{◌≡◌, ◌≤◌, ◌<◌, ℕ, true, List, Option, Some, None, Ok, Err, Result, refl, sym, ap, subst, ◌∙◌, length, arith, inl, inr}
+use Rattle.std.proofs.Common.{◌≡◌, ◌≤◌, ◌<◌, ℕ, List, None, Ok, Err, Result, sym, ap, subst, ◌∙◌, length, inl, inr}
 use Rattle.std.proofs.lemmas.Bool.{cases_lt}
 use Rattle.std.specs.Prelude.{IfOk, is_some}
 use Rattle.dice_base.specs.declared.token.TokenKind.{TokenKind}
 use Rattle.dice_base.specs.Lexemes.{Lexes}
 use Rattle.script_lines.specs.Front.{longest_text}
 use Rattle.program_tree.specs.declared.program.Program.{Program as Tree}
-use Rattle.program_tree.specs.declared.stmt.Stmt.{Stmt}
 use Rattle.program_tree.specs.Programs.{Derives}
 use Rattle.tree_names.specs.Naming.{numbered}
 use Rattle.pascal_parser.specs.Whole.{DerivesStmt}
 use Rattle.simple_form.specs.Simple.{resolved}
-use Rattle.dice_session.specs.Reading.{Reading, TooLong, NotBuilt, Program, AreProgram, IsTextOf, IsReading, Substitute, NoStatement, OneStatement, IsTextOfStmt, IsSubstitute}
+use Rattle.dice_session.specs.Reading.{Reading, TooLong, NotBuilt, Program, AreProgram, IsReading, Substitute, NoStatement, OneStatement, IsSubstitute}
 use Rattle.dice_session.specs.Readings.{IsReadingOf, IsReadingBy, IsSubstituteOf}
 
 -- a tree that was read, and what it resolves to once it is named

@@ -1,40 +1,32 @@
 -- The session and its world, command by command.
-use Rattle.std.proofs.Common.{◌≡◌, ◌≢◌, ◌<◌, ◌≤◌, ◌⊎◌, ℕ, ◌+◌, Bool, true, false, List, [], ◌∷◌, ◌++◌, Option, Some, None, Result, Ok, Err, length, take, refl, sym, ap, subst, ◌∙◌, append-nil, arith, inl, inr}
-use Rattle.std.specs.Prelude.{◌==◌, ◌&&◌, OnOk, bytes_eq, codes, nat_lt, if◌then◌else◌}
+use Rattle.std.proofs.Common.{◌≡◌, ◌<◌, ◌≤◌, ℕ, ◌+◌, Bool, true, false, List, [], ◌∷◌, ◌++◌, Option, Some, None, Result, Ok, Err, length, take, refl, sym, ap, subst, ◌∙◌, append-nil, arith, inl, inr}
+use Rattle.std.specs.Prelude.{◌==◌, ◌&&◌, OnOk, bytes_eq, codes, if◌then◌else◌}
 use Rattle.std.proofs.lemmas.Bool.{lt-ltb, le-ltb}
 use Rattle.std.proofs.lemmas.List.{append_assoc, length-take}
-use Rattle.std.specs.Fmt.{decimal}
 use Rattle.std.specs.Option.{option_map}
-use Rattle.pdp11_machine.specs.State.{State as MachineState, zero_machine}
-use Rattle.console_service.specs.Console.{ConsoleState}
+use Rattle.pdp11_machine.specs.State.{State as MachineState}
 use Rattle.script_lines.specs.Front.{longest_text, SameFront}
 use Rattle.pascal_semantics.specs.declared.form.Statement.{Statement}
 use Rattle.pascal_semantics.specs.Charge.{program_charge, charges_of}
 use Rattle.pascal_semantics.specs.Program.{program_of}
-use Rattle.pascal_semantics.specs.State.{State, Status, NotStarted, Halted, Ended, Failed, loaded_state}
+use Rattle.pascal_semantics.specs.State.{State, Status, NotStarted, Halted, Ended, Failed}
 use Rattle.pascal_semantics.specs.Run.{run_of}
-use Rattle.pascal_semantics.specs.Valid.{IsProgram, code_room}
+use Rattle.pascal_semantics.specs.Valid.{code_room}
 use Rattle.dice_command.specs.declared.command.CommandFault.TheVariants.{LineTooLong, NotACommand}
 use Rattle.dice_command.specs.Words.{is_text_byte, every, is_empty, word_of, after_word}
 use Rattle.dice_command.specs.Keyword.{keyword_of}
 use Rattle.dice_command.specs.Command.{Asked, Blank, Bad, Replace, asked, command_of, with_arguments}
 use Rattle.dice_command.specs.declared.command.LineCommand.{LineCommand}
 use Rattle.program_tree.specs.declared.program.Program.{Program as Tree}
-use Rattle.program_tree.specs.declared.stmt.Stmt.{Stmt}
-use Rattle.simple_form.specs.Simple.{resolved, variables_in, is_built}
-use Rattle.tree_edit.specs.declared.fault.EditFault.{EditFault}
-use Rattle.tree_edit.specs.Edited.{replaced_program}
-use Rattle.dice_session.specs.Reading.{Reading, TooLong, NotBuilt, Program, IsReading, Substitute, NoStatement, OneStatement, IsSubstitute}
-use Rattle.dice_session.specs.Readings.{AreNamed}
-use Rattle.dice_session.specs.Progress.{progress_of, progress_by, progress_after, is_over, IsStartedBy}
-use Rattle.dice_session.specs.declared.progress.Progress.{Progress}
+use Rattle.dice_session.specs.Reading.{Reading, IsReading, Substitute, IsSubstitute}
+use Rattle.dice_session.specs.Progress.{progress_by, progress_after, is_over, IsStartedBy}
 use Rattle.dice_session.specs.declared.progress.Progress.TheVariants as progress
-use Rattle.dice_session.specs.World.{World, Mode, Commands, Loading, Over, Command, Line, Puts, TextLine, TextEnd, Nothing, IsCommand, Reads, reply_of, refused, obeyed, loaded, load_of, loaded_reply, run_in, line, longer, has_ended, has_ended_by, is_halted, is_halted_by, end_line, run_reply, statements_of, or_none, full_words, full_text, if_fits, with_program, applied_to, applied_by, applied_in, edited_to, edited_in, edit_fault_text, put_in, listed_in}
-use Rattle.dice_session.specs.Simulates.{StandsFor, Simulates, IsWellFormed, CanRun, CanRunBy, CanRunFrom, Ran}
-use Rattle.dice_session.specs.Lives.{Stands, StandsBy, HasMode, HasStatements, HasProgram, Lives, Became, Obeyed, Replied, kept_text}
+use Rattle.dice_session.specs.World.{World, Mode, Commands, Loading, Over, Command, Line, Puts, TextLine, TextEnd, Nothing, IsCommand, Reads, reply_of, refused, obeyed, run_in, line, longer, has_ended, has_ended_by, end_line, run_reply, statements_of, full_words, full_text, if_fits, put_in}
+use Rattle.dice_session.specs.Simulates.{CanRunBy, CanRunFrom, Ran}
+use Rattle.dice_session.specs.Lives.{StandsBy, HasMode, HasProgram, Lives, Became, Obeyed, Replied, kept_text}
 use Rattle.dice_session.specs.Texts.{ReadsText}
 use Rattle.dice_session.specs.declared.session.Session.{Session}
-use Rattle.dice_session.proofs.Texts.{longer-kept, same-line, same-reading}
+use Rattle.dice_session.proofs.Texts.{longer-kept, same-line}
 
 -- a clause of a call that is the last one
 pub on_ok : {E : Type 0} {P Q : Type 0} (r : Result (Unit {0}) E) → OnOk r P → (P → Q) → OnOk r Q

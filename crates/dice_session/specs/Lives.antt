@@ -1,7 +1,6 @@
 -- When a session and its machine are those of a world.
 use Rattle.std.specs.Prelude.{◌≡◌, ℕ, ◌+◌, Bool, true, false, List, [], ◌∷◌, ◌++◌, take, Option, Some, None}
 use Rattle.std.specs.Option.{option_map}
-use Rattle.std.specs.List.{AllByRecursion}
 use Rattle.script_lines.specs.Front.{longest_text}
 use Rattle.pdp11_machine.specs.State.{State as MachineState, zero_machine}
 use Rattle.pascal_semantics.specs.State.{State}
@@ -9,7 +8,7 @@ use Rattle.pascal_semantics.specs.declared.form.Statement.{Statement}
 use Rattle.pascal_semantics.specs.Valid.{IsProgram}
 use Rattle.program_tree.specs.declared.program.Program.{Program as Tree}
 use Rattle.dice_command.specs.Command.{Asked}
-use Rattle.dice_session.specs.World.{World, Mode, Commands, Loading, Over, Command, IsCommand, Reads, reply_of, end_line, missing_end, statements_of}
+use Rattle.dice_session.specs.World.{World, Mode, Commands, Loading, Over, Command, IsCommand, Reads, reply_of, end_line, statements_of}
 use Rattle.dice_session.specs.Simulates.{StandsFor, IsWellFormed}
 use Rattle.dice_session.specs.Progress.{progress_of}
 use Rattle.dice_session.specs.declared.session.Session.{Session}

@@ -1,5 +1,5 @@
 -- The end of a text that is to be loaded.
-use Rattle.std.specs.Prelude.{◌≡◌, ℕ, List}
+use Rattle.std.specs.Prelude.{ℕ, List}
 use Rattle.pdp11_machine.specs.State.{State as MachineState}
 use Rattle.dice_session.specs.World.{World, load_of}
 use Rattle.dice_session.specs.Reading.{Reading, IsReading}

@@ -1,5 +1,5 @@
 -- A recursion on a count of turns, beside a loop that counts up.
-use Rattle.std.proofs.Common.{◌≡◌, ℕ, suc, ◌+◌, ◌-◌, ◌<◌, ◌≤◌, List, Ok, ap, ◌∙◌, refl, arith}
+use Rattle.std.proofs.Common.{◌≡◌, ℕ, suc, ◌+◌, ◌-◌, ◌<◌, ◌≤◌, List, Ok, ap, arith}
 use Rattle.std.specs.Prelude.{Option}
 use Rattle.program_tree.specs.Tokens.{Toks}
 use Rattle.grammar_laws.specs.Parsers.{Parser, ◌>>=◌, more_of, many_from}

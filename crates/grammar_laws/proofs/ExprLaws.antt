@@ -1,21 +1,18 @@
 -- The rules of identifiers, lists and accesses.
-use Rattle.std.specs.Prelude.{◌≡◌, ℕ, zero, suc, List, [], ◌∷◌, ◌++◌, Option, Some, None, Ok, Err, Bool, true, false, ◌⊎◌}
-use Rattle.std.proofs.Common.{refl, sym, ap, subst, ◌∙◌, append_assoc, inl, inr, eqb, cond, length, arith, length-append}
-use Rattle.std.proofs.lemmas.List.{append-nil}
-use Rattle.std.proofs.lemmas.Bool.{cases_Bool, eqb-true}
-use Rattle.program_tree.specs.declared.expr.Expr.{Expr, roll-Expr}
-use Rattle.program_tree.specs.declared.expr.Factor.{Factor}
-use Rattle.program_tree.specs.declared.expr.Access.{Access, roll-Access}
+use Rattle.std.specs.Prelude.{◌≡◌, ℕ, List, [], ◌∷◌, ◌++◌, None, false, ◌⊎◌}
+use Rattle.std.proofs.Common.{refl, inl, inr, eqb, length, arith, length-append}
+use Rattle.program_tree.specs.declared.expr.Expr.{Expr}
+use Rattle.program_tree.specs.declared.expr.Access.{Access}
 use Rattle.program_tree.specs.declared.expr.AccessPart.{AccessPart}
 use Rattle.program_tree.specs.declared.expr.AccessPart.TheVariants as part
 use Rattle.dice_base.specs.declared.token.TokenKind.{TokenKind}
 use Rattle.dice_base.specs.declared.token.TokenKind.TheVariants.{Word, Ident, Number, Str, Sign, Hole}
-use Rattle.program_tree.specs.Tokens.{Toks, class_of, class_at}
-use Rattle.program_tree.specs.Symbols.{plus_sign, minus_sign, comma_sign, right_sign, left_sign, period_sign, arrow_sign, ident_class}
-use Rattle.grammar_laws.specs.Parsers.{Parser, ◌>>=◌, pure, on, ident, ident_of, many, many_from, many_after, separated, behind, prefixed}
-use Rattle.program_tree.specs.Forms.{Form, never, just, token, chain, either, row, rows, after_sep, list_of, named}
+use Rattle.program_tree.specs.Tokens.{Toks, class_at}
+use Rattle.program_tree.specs.Symbols.{comma_sign, right_sign, left_sign, period_sign, arrow_sign, ident_class}
+use Rattle.grammar_laws.specs.Parsers.{Parser, ◌>>=◌, pure, ident, ident_of, many_after, separated, behind}
+use Rattle.program_tree.specs.Forms.{Form, token, row, after_sep, list_of, named}
 use Rattle.program_tree.specs.Expressions.{index_form, field_form, deref_form, part_form, access_form}
-use Rattle.grammar_laws.proofs.Rules.{Rule, Item, Any, Is, IsNot, ok, ok_value, ok_rest, seq, give, narrow, before, token_rule, token_starts, expect_rule, choice_rule, many_rule, op_item, row_follows, no_item, item_on, row_reads, row_takes}
+use Rattle.grammar_laws.proofs.Rules.{Rule, Item, Any, IsNot, ok, ok_value, ok_rest, seq, give, narrow, expect_rule, many_rule, row_follows, no_item, item_on, row_reads, row_takes}
 use Rattle.grammar_laws.specs.Reading as r
 use Rattle.grammar_laws.proofs.FactorRules.{Plain}
 

@@ -1,16 +1,13 @@
 -- The rules of expressions.
-use Rattle.std.specs.Prelude.{◌≡◌, ℕ, List, [], ◌∷◌, ◌++◌, Option, Some, None}
-use Rattle.std.proofs.Common.{refl, append_assoc}
+use Rattle.std.specs.Prelude.{◌≡◌, ℕ, Some, None}
+use Rattle.std.proofs.Common.{refl}
 use Rattle.std.proofs.lemmas.List.{append-nil}
-use Rattle.program_tree.specs.declared.expr.Term.{Term, roll-Term}
 use Rattle.program_tree.specs.declared.expr.MulOp.{MulOp}
-use Rattle.program_tree.specs.declared.expr.MulPart.{MulPart}
 use Rattle.program_tree.specs.declared.expr.Factor.{Factor}
-use Rattle.program_tree.specs.Tokens.{Toks, class_at}
-use Rattle.grammar_laws.specs.Parsers.{Parser, ◌>>=◌, pure, many, prefixed}
-use Rattle.program_tree.specs.Forms.{Form, just, chain, row, rows, behind_op}
+use Rattle.grammar_laws.specs.Parsers.{prefixed}
+use Rattle.program_tree.specs.Forms.{Form, behind_op}
 use Rattle.program_tree.specs.Expressions as g
-use Rattle.grammar_laws.proofs.Rules.{Rule, Item, Any, seq, give, narrow, many_rule, op_item, row_follows}
+use Rattle.grammar_laws.proofs.Rules.{Rule, Item, Any, seq, give, many_rule, op_item, row_follows}
 use Rattle.grammar_laws.specs.Reading as r
 
 abbrev pub Plain : Unit {0} → ℕ → Type 0

@@ -1,19 +1,18 @@
 -- The rule of factors.
-use Rattle.std.specs.Prelude.{◌≡◌, ℕ, List, [], ◌∷◌, ◌++◌, Ok, Err, length}
-use Rattle.std.proofs.Common.{refl, sym, ap, subst, ◌∙◌, append_assoc, inl, inr, eqb, false, true}
+use Rattle.std.specs.Prelude.{◌≡◌, ℕ, [], ◌∷◌, ◌++◌}
+use Rattle.std.proofs.Common.{refl, append_assoc, inl, inr, eqb, false}
 use Rattle.program_tree.specs.declared.expr.Expr.{Expr}
 use Rattle.program_tree.specs.declared.expr.Factor.{Factor}
 use Rattle.program_tree.specs.declared.expr.Factor.TheVariants as f
 use Rattle.program_tree.specs.declared.expr.Access.{Access}
 use Rattle.dice_base.specs.declared.token.TokenKind.{TokenKind}
 use Rattle.dice_base.specs.declared.token.TokenKind.TheVariants.{Word, Ident, Number, Str, Sign, Hole}
-use Rattle.program_tree.specs.Tokens.{Toks, class_of, class_at}
-use Rattle.grammar_laws.specs.declared.stop.Stop.TheVariants.{At}
+use Rattle.program_tree.specs.Tokens.{Toks, class_at}
 use Rattle.program_tree.specs.Symbols.{number_class, ident_class, open_sign, close_sign, not_word}
-use Rattle.grammar_laws.specs.Parsers.{Parser, ◌>>=◌, pure, refuse, on, from, number, number_of, expect, next, deep}
+use Rattle.grammar_laws.specs.Parsers.{Parser, ◌>>=◌, pure, refuse, number, number_of, deep}
 use Rattle.program_tree.specs.Forms.{Form, never, just, token, chain, either, numeral}
 use Rattle.program_tree.specs.Expressions.{access_form, number_form, variable_form, paren_in, not_in, factor_form}
-use Rattle.grammar_laws.proofs.Rules.{Rule, Any, Is, IsNot, ok, ok_value, ok_rest, seq, give, before, token_rule, token_starts, expect_rule, choice_rule}
+use Rattle.grammar_laws.proofs.Rules.{Rule, Any, ok, ok_value, ok_rest, seq, give, before, token_rule, expect_rule, choice_rule}
 use Rattle.grammar_laws.specs.Reading as r
 
 abbrev pub Plain : Unit {0} → ℕ → Type 0

@@ -1,24 +1,22 @@
 -- The rules of programs.
-use Rattle.std.specs.Prelude.{◌≡◌, ℕ, List, [], ◌∷◌, ◌++◌, Ok, Err}
-use Rattle.std.proofs.Common.{refl, sym, ap, subst, ◌∙◌, append_assoc, inl, inr, eqb, true, false}
+use Rattle.std.specs.Prelude.{◌≡◌, ℕ, [], ◌∷◌, ◌++◌}
+use Rattle.std.proofs.Common.{refl, sym, subst, ◌∙◌, eqb, true}
 use Rattle.std.proofs.lemmas.List.{append-nil}
 use Rattle.program_tree.specs.declared.decl.Decl.{Decl}
-use Rattle.program_tree.specs.declared.decl.Block.{Block}
 use Rattle.program_tree.specs.declared.program.Program.{Program}
 use Rattle.program_tree.specs.declared.stmt.Stmt.{Stmt}
-use Rattle.program_tree.specs.declared.stmt.StmtKind.{StmtKind}
 use Rattle.program_tree.specs.Tokens.{Toks, class_at}
 use Rattle.program_tree.specs.Symbols.{begin_word, program_word, var_word, ident_class, period_sign, comma_sign, semicolon_sign, colon_sign}
-use Rattle.program_tree.specs.Forms.{Form, just, token, chain, either, rows, list_of, named}
+use Rattle.program_tree.specs.Forms.{Form, named}
 use Rattle.program_tree.specs.Statements.{compound_in, compound_form, stmt_at}
-use Rattle.program_tree.specs.Programs.{make_var, make_block, make_program, var_form, vars_in, vars_form, block_form, program_in, program_form, Derives}
-use Rattle.grammar_laws.specs.Parsers.{Parser, ◌>>=◌, pure, ident}
+use Rattle.program_tree.specs.Programs.{make_var, make_block, make_program, var_form, vars_in, vars_form, block_form, program_form, Derives}
+use Rattle.grammar_laws.specs.Parsers.{Parser, ident}
 use Rattle.grammar_laws.specs.ProgramReading as read
 use Rattle.grammar_laws.specs.StmtReading.{compound, stmt_in}
-use Rattle.grammar_laws.proofs.Rules.{Rule, Item, Any, IsNot, ok, ok_value, seq, give, narrow, before, token_rule, expect_rule, choice_rule, many_rule, item_from}
+use Rattle.grammar_laws.proofs.Rules.{Rule, Item, Any, IsNot, ok, seq, give, narrow, before, token_rule, expect_rule, choice_rule, many_rule, item_from}
 use Rattle.grammar_laws.proofs.FactorRules.{Plain}
 use Rattle.grammar_laws.proofs.ExprLaws.{first_class, ident_rule, list_rule}
-use Rattle.grammar_laws.proofs.StmtLaws.{compound_rule, SF, stmt_rules}
+use Rattle.grammar_laws.proofs.StmtLaws.{compound_rule, stmt_rules}
 
 abbrev FA : Unit {0} → ℕ → Type 0
 FA w c = Any c

@@ -1,6 +1,6 @@
 -- The rules of statements.
-use Rattle.std.specs.Prelude.{◌≡◌, ℕ, zero, suc, Bool, true, List, [], ◌∷◌, ◌++◌, Option, Some, None, Ok, Err}
-use Rattle.std.proofs.Common.{refl, sym, ap, subst, ◌∙◌, append_assoc, inl, inr, eqb, false}
+use Rattle.std.specs.Prelude.{◌≡◌, ℕ, zero, suc, Bool, true, List, [], ◌∷◌, ◌++◌, Option, Some, None}
+use Rattle.std.proofs.Common.{refl, sym, subst, append_assoc, inl, inr}
 use Rattle.std.proofs.lemmas.List.{append-nil}
 use Rattle.program_tree.specs.declared.expr.Expr.{Expr}
 use Rattle.program_tree.specs.declared.expr.Arg.{Arg}
@@ -12,13 +12,13 @@ use Rattle.program_tree.specs.declared.stmt.StmtKind.TheVariants as s
 use Rattle.program_tree.specs.Tokens.{Toks, class_at}
 use Rattle.program_tree.specs.Symbols.{begin_word, end_word, else_word, until_word, ident_class, open_sign, close_sign, becomes_sign, comma_sign, semicolon_sign, colon_sign}
 use Rattle.program_tree.specs.Forms.{Form, just, token, chain, either, row, rows, list_of, operator, named}
-use Rattle.program_tree.specs.Expressions.{make_access, access_form, part_form, expr_at}
-use Rattle.program_tree.specs.Statements.{make_arg, make_stmt, width_form, arg_form, args_form, assign_form, call_form, empty_form, compound_in, compound_form, kind_form, stmt_form, stmt_at}
-use Rattle.grammar_laws.specs.Parsers.{Parser, ◌>>=◌, pure, refuse, on}
+use Rattle.program_tree.specs.Expressions.{make_access, part_form, expr_at}
+use Rattle.program_tree.specs.Statements.{make_arg, make_stmt, width_form, arg_form, args_form, assign_form, call_form, empty_form, compound_in, kind_form, stmt_form, stmt_at}
+use Rattle.grammar_laws.specs.Parsers.{Parser, refuse, on}
 use Rattle.grammar_laws.specs.Reading as r
 use Rattle.grammar_laws.specs.StmtReading as read
-use Rattle.grammar_laws.proofs.Rules.{Rule, Found, Any, IsNot, ok, seq, give, narrow, before, guarded, some_of, token_rule, expect_rule, choice_rule, many_rule}
-use Rattle.grammar_laws.proofs.FactorRules.{Plain, never_rule, deep_rule}
+use Rattle.grammar_laws.proofs.Rules.{Rule, Any, IsNot, ok, seq, give, narrow, before, guarded, some_of, token_rule, expect_rule, choice_rule, many_rule}
+use Rattle.grammar_laws.proofs.FactorRules.{Plain, deep_rule}
 use Rattle.grammar_laws.proofs.ExprLaws.{AccessEnds, access_starts, first_class, ident_rule, list_rule, part_item}
 use Rattle.grammar_laws.proofs.SumLaws.{ExprEnds, AllOps, op_apart}
 use Rattle.grammar_laws.proofs.Whole.{expr_rules}

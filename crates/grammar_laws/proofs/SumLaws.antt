@@ -1,6 +1,6 @@
 -- The rules of sums and of whole expressions.
-use Rattle.std.specs.Prelude.{◌≡◌, ℕ, zero, suc, List, [], ◌∷◌, ◌++◌, Option, Some, None, Ok, Err, Bool, true, false, ◌⊎◌}
-use Rattle.std.proofs.Common.{refl, sym, ap, subst, ◌∙◌, append_assoc, inl, inr, eqb, cond, length, arith, length-append}
+use Rattle.std.specs.Prelude.{◌≡◌, ℕ, List, [], ◌∷◌, ◌++◌, Option, Some, None, Bool, true, false}
+use Rattle.std.proofs.Common.{refl, sym, subst, append_assoc, inl, inr, eqb}
 use Rattle.std.proofs.lemmas.List.{append-nil}
 use Rattle.std.proofs.lemmas.Bool.{cases_Bool, eqb-true}
 use Rattle.program_tree.specs.declared.expr.MulOp.{MulOp}
@@ -8,21 +8,17 @@ use Rattle.program_tree.specs.declared.expr.AddOp.{AddOp}
 use Rattle.program_tree.specs.declared.expr.RelOp.{RelOp}
 use Rattle.program_tree.specs.declared.expr.Prefix.{Prefix}
 use Rattle.program_tree.specs.declared.expr.Prefix.TheVariants as prefix
-use Rattle.program_tree.specs.declared.expr.Expr.{Expr, roll-Expr}
 use Rattle.program_tree.specs.declared.expr.RelPart.{RelPart}
-use Rattle.program_tree.specs.declared.expr.SumExpr.{SumExpr, roll-SumExpr}
-use Rattle.program_tree.specs.declared.expr.AddPart.{AddPart}
 use Rattle.program_tree.specs.declared.expr.Term.{Term}
 use Rattle.program_tree.specs.declared.expr.Factor.{Factor}
-use Rattle.dice_base.specs.declared.token.TokenKind.{TokenKind}
-use Rattle.program_tree.specs.Tokens.{Toks, class_of, class_at}
+use Rattle.program_tree.specs.Tokens.{Toks, class_at}
 use Rattle.program_tree.specs.Symbols.{plus_sign, minus_sign}
-use Rattle.grammar_laws.specs.Parsers.{Parser, ◌>>=◌, pure, on, many, prefixed}
-use Rattle.program_tree.specs.Forms.{Form, just, token, chain, either, row, rows, opt, behind_op}
+use Rattle.grammar_laws.specs.Parsers.{Parser, prefixed}
+use Rattle.program_tree.specs.Forms.{Form, just, token, either, opt, behind_op}
 use Rattle.program_tree.specs.Forms as g
 use Rattle.program_tree.specs.Expressions as s
 use Rattle.program_tree.specs.Expressions.{sign_form, sum_form, expr_form}
-use Rattle.grammar_laws.proofs.Rules.{Rule, Found, Item, Any, Is, IsNot, ok, ok_value, ok_rest, seq, give, narrow, before, token_rule, choice_rule, many_rule, op_item, row_follows}
+use Rattle.grammar_laws.proofs.Rules.{Rule, Found, Item, Any, IsNot, ok, seq, give, before, token_rule, choice_rule, many_rule, op_item, row_follows}
 use Rattle.grammar_laws.specs.Reading as r
 use Rattle.grammar_laws.proofs.FactorRules.{Plain}
 use Rattle.grammar_laws.proofs.ExprLaws.{AccessEnds}

@@ -1,19 +1,15 @@
 -- What an expression is spelled by, with this many levels, and that the reader reads exactly that.
-use Rattle.std.specs.Prelude.{◌≡◌, ℕ, zero, suc, List, [], ◌++◌, Option, Some, None, Ok, Err}
-use Rattle.std.proofs.Common.{refl, sym, ap, subst, ◌∙◌, append_assoc, inl, inr, eqb, false}
-use Rattle.std.proofs.lemmas.Bool.{cases_Bool, eqb-true}
-use Rattle.std.proofs.lemmas.List.{append-nil}
+use Rattle.std.specs.Prelude.{◌≡◌, ℕ, zero, suc, ◌++◌, Some}
+use Rattle.std.proofs.Common.{refl, append_assoc, inl, inr, false}
 use Rattle.program_tree.specs.declared.expr.AddOp.{AddOp}
 use Rattle.program_tree.specs.declared.expr.RelOp.{RelOp}
 use Rattle.program_tree.specs.declared.expr.Expr.{Expr}
 use Rattle.program_tree.specs.declared.expr.Factor.{Factor}
-use Rattle.program_tree.specs.declared.expr.Access.{Access}
 use Rattle.program_tree.specs.Tokens.{Toks, class_at}
-use Rattle.program_tree.specs.Symbols.{ident_class, open_sign, not_word, close_sign, comma_sign, right_sign}
-use Rattle.grammar_laws.proofs.Rules.{Rule, Any, IsNot, ok, ok_value, ok_rest}
+use Rattle.grammar_laws.proofs.Rules.{Rule, Any}
 use Rattle.grammar_laws.specs.Reading as r
-use Rattle.program_tree.specs.Forms.{Form, never}
-use Rattle.program_tree.specs.Expressions.{access_form, factor_form, expr_form, expr_at, factor_at}
+use Rattle.program_tree.specs.Forms.{Form}
+use Rattle.program_tree.specs.Expressions.{factor_form, expr_form, expr_at, factor_at}
 use Rattle.program_tree.specs.Expressions as s
 use Rattle.grammar_laws.proofs.FactorRules.{Plain, deep_rule, factor_rule}
 use Rattle.grammar_laws.proofs.ExprLaws.{AccessEnds, access_starts, access_rule}

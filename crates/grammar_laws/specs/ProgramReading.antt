@@ -1,5 +1,5 @@
 -- Programs, read from left to right.
-use Rattle.std.specs.Prelude.{ℕ, if◌then◌else◌, ◌==◌, List, [], ◌∷◌, Option, Some, None, Ok, Err}
+use Rattle.std.specs.Prelude.{List, [], ◌∷◌, Option, Some, None}
 use Rattle.program_tree.specs.declared.decl.Decl.{Decl}
 use Rattle.program_tree.specs.declared.decl.Block.{Block}
 use Rattle.program_tree.specs.declared.program.Program.{Program}

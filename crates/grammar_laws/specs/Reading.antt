@@ -1,5 +1,5 @@
 -- Expressions, read from left to right.
-use Rattle.std.specs.Prelude.{ℕ, zero, suc, if◌then◌else◌, ◌==◌, List, [], ◌∷◌, Option, Some, None, Ok, Err}
+use Rattle.std.specs.Prelude.{ℕ, zero, suc, Option, Some, None}
 use Rattle.program_tree.specs.declared.expr.Prefix.{Prefix}
 use Rattle.program_tree.specs.declared.expr.Prefix.TheVariants as prefix
 use Rattle.program_tree.specs.declared.expr.Expr.{Expr}
@@ -13,7 +13,6 @@ use Rattle.program_tree.specs.declared.expr.Factor.TheVariants as f
 use Rattle.program_tree.specs.declared.expr.Access.{Access}
 use Rattle.program_tree.specs.declared.expr.AccessPart.{AccessPart}
 use Rattle.program_tree.specs.declared.expr.AccessPart.TheVariants as part
-use Rattle.program_tree.specs.Tokens.{Toks, class_at}
 use Rattle.program_tree.specs.Symbols.{not_word, ident_class, number_class, plus_sign, minus_sign, open_sign, close_sign, left_sign, right_sign, period_sign, comma_sign, arrow_sign}
 use Rattle.program_tree.specs.Expressions.{mul_op, add_op, rel_op, make_mul, make_add, make_rel, make_access, make_term, make_sum, make_expr}
 use Rattle.grammar_laws.specs.Parsers.{Parser, ◌>>=◌, ◌>>◌, pure, refuse, on, from, expect, ident, number, separated, many, deep, prefixed}

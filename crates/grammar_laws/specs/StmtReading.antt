@@ -1,5 +1,5 @@
 -- Statements, read from left to right.
-use Rattle.std.specs.Prelude.{ℕ, zero, suc, if◌then◌else◌, ◌==◌, List, [], ◌∷◌, Option, Some, None, Ok, Err}
+use Rattle.std.specs.Prelude.{ℕ, zero, suc, List, [], ◌∷◌, Option, Some, None}
 use Rattle.program_tree.specs.declared.expr.Expr.{Expr}
 use Rattle.program_tree.specs.declared.expr.Arg.{Arg}
 use Rattle.program_tree.specs.declared.expr.AccessPart.{AccessPart}

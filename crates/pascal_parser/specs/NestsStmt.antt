@@ -1,5 +1,5 @@
 -- A function value that reads statements of fewer levels.
-use Rattle.std.specs.Prelude.{ℕ, ◌+◌, ◌<◌, Result}
+use Rattle.std.specs.Prelude.{ℕ, ◌<◌, Result}
 use Rattle.std.specs.declared.alloc.Global.{Global}
 use denote.Ref.{MutBor}
 use Rattle.program_tree.specs.declared.stmt.Stmt.{Stmt}

@@ -1,5 +1,5 @@
 -- Lists of files, and blocks part by part.
-use Rattle.std.proofs.Common.{◌≡◌, ℕ, ◌<◌, List, [], ◌∷◌, ◌++◌, map, length, refl, sym, ap, ◌∙◌, append_assoc, arith}
+use Rattle.std.proofs.Common.{◌≡◌, ℕ, ◌<◌, List, [], ◌∷◌, ◌++◌, map, length, refl, ap, append_assoc, arith}
 use Rattle.program_tree.specs.declared.decl.Block.{Block, out-Block}
 use Rattle.program_tree.specs.declared.decl.Block.TheFolds.{fold_out-Block}
 use Rattle.program_tree.specs.Tokens.{Toks}

@@ -1,5 +1,5 @@
 -- Lines that go on, and lines that end.
-use Rattle.std.proofs.Common.{◌≡◌, ℕ, Bool, List, [], ◌∷◌, ◌++◌, Option, Some, None, refl, sym, ap, ◌∙◌, append_assoc, append-nil}
+use Rattle.std.proofs.Common.{◌≡◌, ℕ, Bool, List, [], ◌∷◌, ◌++◌, Option, Some, None, refl, sym, ap, append_assoc, append-nil}
 use Rattle.dice_base.specs.declared.name.Name.{Name}
 use Rattle.dice_base.specs.declared.token.TokenKind.{TokenKind}
 use Rattle.program_tree.specs.Tokens.{Toks}

@@ -1,6 +1,6 @@
 -- The listing of a program. It is the tokens in their spelling, in lines: a line begins at each named item, at each word
 -- that begins a part of a block, and at the first token other than `;` and `.` that an item has behind a named one in it.
-use Rattle.std.specs.Prelude.{ℕ, ◌-◌, ◌*◌, Bool, true, false, ◌||◌, ◌==◌, if◌then◌else◌, List, [], ◌∷◌, ◌++◌, length, Option, Some, None, replicate}
+use Rattle.std.specs.Prelude.{ℕ, ◌-◌, ◌*◌, Bool, false, ◌||◌, ◌==◌, if◌then◌else◌, List, [], ◌∷◌, ◌++◌, length, Option, Some, None, replicate}
 use Rattle.std.specs.Fmt.{decimal}
 use Rattle.dice_base.specs.declared.name.Name.{Name}
 use Rattle.dice_base.specs.declared.token.TokenKind.{TokenKind}

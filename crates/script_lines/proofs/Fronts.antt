@@ -1,5 +1,5 @@
 -- What is kept of a line while it is read.
-use Rattle.std.proofs.Common.{◌≡◌, ◌≢◌, ◌==◌, ◌≤◌, ◌<◌, ◌⊎◌, ℕ, ◌+◌, ◌-◌, Bool, true, false, if◌then◌else◌, List, [], ◌∷◌, ◌++◌, length, length-append, take, slice_index, refl, sym, ap, subst, ◌∙◌, arith, inl, inr, take_all}
+use Rattle.std.proofs.Common.{◌≡◌, ◌≢◌, ◌==◌, ◌≤◌, ◌<◌, ℕ, ◌+◌, ◌-◌, true, false, if◌then◌else◌, List, [], ◌∷◌, ◌++◌, length, length-append, take, slice_index, refl, sym, ap, subst, ◌∙◌, arith, inl, inr, take_all}
 use Rattle.std.proofs.lemmas.List.{take-take, length-take, take-append-le}
 use Rattle.std.proofs.lemmas.Bool.{cases_lt}
 use Rattle.std.specs.declared.option.Option.{Option}

@@ -1,5 +1,5 @@
 -- What a list says of one statement, among what it says of others.
-use Rattle.std.proofs.Common.{◌≡◌, List, [], ◌∷◌, ◌++◌, ap, ◌∙◌, sym, append_assoc}
+use Rattle.std.proofs.Common.{◌≡◌, List, ◌++◌, ap, ◌∙◌, sym, append_assoc}
 use Rattle.program_tree.specs.declared.stmt.Stmt.{Stmt}
 
 -- `of` the old one stands between others in the whole, and stays there where another is put in its place

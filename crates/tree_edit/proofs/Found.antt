@@ -1,5 +1,5 @@
 -- The outcome of an edit, by what bears the name.
-use Rattle.std.proofs.Common.{◌≡◌, ℕ, List, Option, Some, None, Result, Ok, Err, ap, ◌∙◌, sym, subst}
+use Rattle.std.proofs.Common.{◌≡◌, ℕ, List, Option, Some, None, Result, Err, ap, ◌∙◌, sym, subst}
 use Rattle.program_tree.specs.declared.stmt.Stmt.{Stmt}
 use Rattle.program_tree.specs.declared.program.Program.{Program as Tree}
 use Rattle.named_program.specs.Paths.{ItemValue, tree_at}

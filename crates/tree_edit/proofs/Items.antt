@@ -1,18 +1,17 @@
 -- Items, what stands in them, and what an edit at a path does to that.
 use Rattle.std.proofs.Common.{◌≡◌, ℕ, zero, suc, ◌+◌, ◌-◌, ◌<◌, ◌≤◌, Bool, true, false, List, [], ◌∷◌, ◌++◌, length, map, Option, Some, None, refl, ap, ◌∙◌, sym, arith, append_assoc, length-append, ltb, subst}
-use Rattle.std.specs.Prelude.{nat_lt, ◌==◌, if◌then◌else◌, option_to_list, option_map}
-use Rattle.std.proofs.lemmas.List.{append-nil, map-append, length-map}
+use Rattle.std.specs.Prelude.{option_to_list, option_map}
+use Rattle.std.proofs.lemmas.List.{map-append, length-map}
 use Rattle.std.proofs.lemmas.Bool.{ltb-true, ltb-false}
-use Rattle.program_tree.specs.declared.stmt.Stmt.{Stmt, Stmt-F, out-Stmt, roll-Stmt}
+use Rattle.program_tree.specs.declared.stmt.Stmt.{Stmt, out-Stmt}
 use Rattle.program_tree.specs.declared.stmt.StmtKind.{StmtKind, StmtKind-F, out-StmtKind}
-use Rattle.program_tree.specs.declared.stmt.Arm.{Arm, out-Arm, roll-Arm}
+use Rattle.program_tree.specs.declared.stmt.Arm.{Arm}
 use Rattle.program_tree.specs.declared.stmt.StmtKind.TheVariants as s
 use Rattle.program_tree.specs.declared.decl.Decl.{Decl}
-use Rattle.program_tree.specs.declared.decl.Block.{Block, Block-F, out-Block, roll-Block, out-roll-Block}
-use Rattle.program_tree.specs.declared.decl.Routine.{Routine, Routine-F, out-Routine, roll-Routine, out-roll-Routine}
-use Rattle.program_tree.specs.declared.program.Program.{Program as Tree}
+use Rattle.program_tree.specs.declared.decl.Block.{Block, Block-F, out-Block, out-roll-Block}
+use Rattle.program_tree.specs.declared.decl.Routine.{Routine, Routine-F, out-Routine, out-roll-Routine}
 use Rattle.named_program.specs.Paths.{ItemValue, OfProgram, OfDecl, OfRoutine, OfStmt, kind_parts, arm_body, stmt_children, block_children, any_children, item_children, item_name}
-use Rattle.tree_edit.specs.Place.{change, change_if, change_any, in_arm, in_kind, in_stmt, put_at, label_count, declared, with_routines, with_body, behind_decls, in_block, in_routine, put_in_block}
+use Rattle.tree_edit.specs.Place.{change, change_if, in_arm, in_kind, in_stmt, put_at, label_count, declared, with_routines, with_body, behind_decls, in_block, in_routine, put_in_block}
 use Rattle.tree_edit.proofs.Lists.{change_map, change_kept, change_front, change_rest, change_single, change_two, change_if_here, change_if_other}
 
 -- ---- the parts of a statement

@@ -1,5 +1,5 @@
 -- An edited program has names again.
-use Rattle.std.proofs.Common.{◌≡◌, ℕ, ◌+◌, ◌<◌, ◌≤◌, List, [], ◌∷◌, ◌++◌, Option, Some, refl, ap, ◌∙◌, sym, subst, arith, append_assoc, eqb}
+use Rattle.std.proofs.Common.{◌≡◌, ℕ, ◌+◌, ◌≤◌, List, [], ◌∷◌, ◌++◌, Some, ◌∙◌, sym, subst, arith, append_assoc, eqb}
 use Rattle.std.specs.List.{AllByRecursion, IsDistinct}
 use Rattle.program_tree.specs.declared.stmt.Stmt.{Stmt, out-Stmt}
 use Rattle.program_tree.specs.declared.program.Program.{Program as Tree}

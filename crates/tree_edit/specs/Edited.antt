@@ -1,6 +1,5 @@
 -- Edits of a program, with their faults in order.
 use Rattle.std.specs.Prelude.{◌≡◌, ℕ, ◌+◌, ◌-◌, nat_lt, Bool, true, false, not, ◌&&◌, ◌||◌, if◌then◌else◌, List, ◌++◌, length, Option, Some, None, option_and_then, Result, Ok, Err}
-use Rattle.dice_base.specs.declared.name.Name.{Name}
 use Rattle.program_tree.specs.declared.stmt.Stmt.{Stmt, out-Stmt}
 use Rattle.program_tree.specs.declared.stmt.StmtKind.{StmtKind, StmtKind-F, out-StmtKind}
 use Rattle.program_tree.specs.declared.stmt.Arm.{Arm}

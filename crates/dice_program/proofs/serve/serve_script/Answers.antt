@@ -1,4 +1,4 @@
-use Rattle.std.proofs.Common.{◌≡◌, ◌≤◌, ◌+◌, ◌-◌, ℕ, subst, sym, arith}
+use Rattle.std.proofs.Common.{◌-◌, ℕ, subst, sym, arith}
 use Rattle.std.proofs.lemmas.Result.{err_from_is_err_and}
 use Rattle.dice_session.specs.World.{empty_world}
 use Rattle.dice_session.specs.Lives.{Lives}

@@ -1,4 +1,4 @@
-use Rattle.std.proofs.Common.{◌≡◌, ◌∙◌, ap}
+use Rattle.std.proofs.Common.{◌∙◌}
 use Rattle.std.proofs.lemmas.Result.{err_from_is_err_and}
 use Rattle.dice_program.specs.declared.serve.Turn.{Turn}
 use Rattle.dice_program.proofs.Turns.{turn-cut, turn-cut-last, err-same}

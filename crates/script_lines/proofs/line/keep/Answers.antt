@@ -1,4 +1,4 @@
-use Rattle.std.proofs.Common.{◌≡◌, ◌∷◌, [], ◌++◌, List, ℕ, ◌∙◌, arith}
+use Rattle.std.proofs.Common.{◌∙◌, arith}
 use Rattle.script_lines.proofs.Fronts.{short-kept, full-kept}
 use Rattle.script_lines.proofs.line.keep.Goals as goal
 

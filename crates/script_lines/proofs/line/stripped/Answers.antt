@@ -1,4 +1,4 @@
-use Rattle.std.proofs.Common.{subst, sym, List, ℕ}
+use Rattle.std.proofs.Common.{subst, sym}
 use Rattle.script_lines.specs.Front.{strip, SameFront}
 use Rattle.script_lines.proofs.Fronts.{same-front}
 use Rattle.script_lines.proofs.line.stripped.Goals as goal

@@ -1,4 +1,4 @@
-use Rattle.std.proofs.Common.{ap, subst, sym, refl, ◌∙◌, Some, List, ℕ}
+use Rattle.std.proofs.Common.{ap, subst, sym, ◌∙◌}
 use Rattle.std.specs.Option.{option_map}
 use Rattle.dice_session.specs.World.{Commands}
 use Rattle.dice_session.specs.Lives.{Obeyed, Lives}

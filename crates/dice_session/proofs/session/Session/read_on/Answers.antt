@@ -1,4 +1,4 @@
-use Rattle.std.proofs.Common.{ap, sym, refl, ◌∙◌, Some}
+use Rattle.std.proofs.Common.{sym, refl, ◌∙◌}
 use Rattle.dice_session.specs.World.{Commands}
 use Rattle.dice_session.proofs.Sessions.{on_ok, end-replied, line-replied}
 use Rattle.dice_session.proofs.session.Session.read_on.Goals as goal

@@ -1,4 +1,4 @@
-use Rattle.std.proofs.Common.{ap, subst, refl, sym, ◌∙◌, Some, List}
+use Rattle.std.proofs.Common.{ap, subst, refl, sym, ◌∙◌, List}
 use Rattle.std.specs.Option.{option_map}
 use Rattle.pascal_semantics.specs.declared.form.Statement.{Statement}
 use Rattle.pascal_semantics.specs.State.{State}
