@@ -9,7 +9,7 @@ use Rattle.dice_base.specs.declared.byte.ByteClass.{ByteClass}
 use Rattle.dice_base.specs.declared.byte.ByteClass.TheVariants.{Letter, Digit, Separator, Mark}
 use Rattle.dice_base.specs.declared.token.TokenKind.{TokenKind}
 use Rattle.dice_base.specs.declared.token.TokenKind.TheVariants.{Word, Ident, Number, Sign, Hole}
-use Rattle.dice_base.specs.declared.token.TheConstants.{WORD_SYMBOLS, SIGNS}
+use Rattle.dice_base.specs.declared.symbols.TheConstants.{WORD_SYMBOLS, SIGNS}
 
 -- the letters of either case; 0 to 9; tab, line feed, carriage return and space; and all others
 abbrev pub class : ℕ → ByteClass

@@ -5,4 +5,5 @@ pub mod Lines
 pub mod LinesLaws
 pub mod Memory
 pub mod Part
+pub mod Symbols
 pub mod Word

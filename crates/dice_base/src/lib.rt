@@ -10,6 +10,7 @@ mod memory;
 mod name;
 mod outside;
 mod standard;
+mod symbols;
 mod text;
 mod token;
 mod whole;
@@ -23,8 +24,9 @@ pub use memory::{MemSink, MemSource};
 pub use name::{Name, Span};
 pub use outside::{Sink, Source};
 pub use standard::{StdSink, StdSource};
+pub use symbols::{SIGNS, WORD_SYMBOLS, signs, words};
 pub use text::Text;
-pub use token::{SIGNS, Token, TokenKind, WORD_SYMBOLS};
+pub use token::{Token, TokenKind};
 pub use whole::write_all;
 
 #[cfg(test)]

@@ -1,51 +1,6 @@
 //! The tokens of a program's text.
 use crate::{Span, Text};
 
-/// The word symbols, in the order of their numbers.
-pub const WORD_SYMBOLS: [&[u8]; 35] = [
-    b"and",
-    b"array",
-    b"begin",
-    b"case",
-    b"const",
-    b"div",
-    b"do",
-    b"downto",
-    b"else",
-    b"end",
-    b"file",
-    b"for",
-    b"function",
-    b"goto",
-    b"if",
-    b"in",
-    b"label",
-    b"mod",
-    b"nil",
-    b"not",
-    b"of",
-    b"or",
-    b"packed",
-    b"procedure",
-    b"program",
-    b"record",
-    b"repeat",
-    b"set",
-    b"then",
-    b"to",
-    b"type",
-    b"until",
-    b"var",
-    b"while",
-    b"with",
-];
-
-/// The signs, in the order of their numbers.
-pub const SIGNS: [&[u8]; 20] = [
-    b"+", b"-", b"*", b"=", b"<>", b"<", b">", b"<=", b">=", b"(", b")", b"[", b"]", b":=", b".",
-    b",", b";", b":", b"..", b"^",
-];
-
 /// What a token is.
 #[derive(Debug, Drop)]
 pub enum TokenKind {

@@ -12,10 +12,10 @@ use Rattle.target_monitor.specs.declared.gates.GoEnd.TheVariants as end
 use Rattle.target_monitor.specs.declared.gates.Went.{Went}
 use Rattle.target_monitor.specs.Go.{gone}
 use Rattle.simulation.specs.Gates.{told, left_at, run_end}
-use Rattle.code_image.specs.Block.{Gate, Block}
-use Rattle.code_image.specs.Semantics.{At}
-use Rattle.code_image.specs.Plain.{Program, Goes}
-use Rattle.code_image.specs.Image.{IsBlock, HasImage, InWords, Before, Represents as BlocksRepresent}
+use Rattle.console_service.specs.Block.{Gate, Block}
+use Rattle.console_service.specs.Semantics.{At}
+use Rattle.console_service.specs.Plain.{Program, Goes}
+use Rattle.console_service.specs.Image.{IsBlock, HasImage, InWords, Before, Represents as BlocksRepresent}
 use Rattle.pascal_semantics.specs.declared.form.Statement.{Statement}
 use Rattle.pascal_semantics.specs.Charge.{charge_of, program_charge}
 use Rattle.pascal_semantics.specs.Program.{program_of}

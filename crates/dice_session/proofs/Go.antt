@@ -9,10 +9,10 @@ use Rattle.target_monitor.specs.declared.gates.Went.{Went}
 use Rattle.target_monitor.specs.Go.{instruction_limit, gone}
 use Rattle.simulation.specs.Gates.{told, drive_from, gates_from, gates_passed}
 use Rattle.simulation.proofs.Go.{go_runs, go_from_runs}
-use Rattle.code_image.specs.Block.{First, Gate, Block}
-use Rattle.code_image.specs.Semantics.{At, Hanging}
-use Rattle.code_image.specs.Plain.{Program, Now, State, Goes, IsLive, is_gate, stretch, drive, cost, spent}
-use Rattle.code_image.specs.Image.{HasImage, Represents as BlocksRepresent}
+use Rattle.console_service.specs.Block.{First, Gate, Block}
+use Rattle.console_service.specs.Semantics.{At, Hanging}
+use Rattle.console_service.specs.Plain.{Program, Now, State, Goes, IsLive, is_gate, stretch, drive, cost, spent}
+use Rattle.console_service.specs.Image.{HasImage, Represents as BlocksRepresent}
 use Rattle.pascal_semantics.specs.declared.form.Statement.{Statement}
 use Rattle.pascal_semantics.specs.Program.{Program as PascalProgram, Row, row_of, rows_of, entry_of, program_of}
 use Rattle.pascal_semantics.specs.Valid.{IsProgram, program_name}

@@ -6,9 +6,9 @@ use Rattle.std.proofs.lemmas.Bool.{cases_eq}
 use Rattle.std.proofs.lemmas.List.{get_or-set_same, get_or-set_other, set_past}
 use Rattle.std.proofs.lemmas.Bool.{cases_lt}
 use Rattle.dice_base.specs.declared.link.LinkTo.TheVariants.{Next}
-use Rattle.code_image.specs.Block.{First, Gate, Step, End, Leave, Spot}
-use Rattle.code_image.specs.Semantics.{Begin, At, Back}
-use Rattle.code_image.specs.Plain.{Program, Pending, Now, State, Goes, Ended, Failed, Stuck, rests, sum_unless, begun_at, moved, stretch_of, next, cost_of, cost, spent, IsGoodNow, IsGoodState}
+use Rattle.console_service.specs.Block.{First, Gate, Step, End, Leave, Spot}
+use Rattle.console_service.specs.Semantics.{Begin, At, Back}
+use Rattle.console_service.specs.Plain.{Program, Pending, Now, State, Goes, Ended, Failed, Stuck, rests, sum_unless, begun_at, moved, stretch_of, next, cost_of, cost, spent, IsGoodNow, IsGoodState}
 use Rattle.pascal_semantics.specs.declared.form.Operand.{Operand}
 use Rattle.pascal_semantics.specs.declared.form.Operand.TheVariants.{Global, Number}
 use Rattle.pascal_semantics.specs.declared.form.SimpleForm.{SimpleForm}

@@ -5,9 +5,9 @@ use Rattle.std.specs.Prelude.{IfOk, is_some}
 use Rattle.dice_base.specs.declared.token.TokenKind.{TokenKind}
 use Rattle.dice_base.specs.Lexemes.{Lexes}
 use Rattle.script_lines.specs.Front.{longest_text}
-use Rattle.program_tree.specs.declared.program.Program.{Program as Tree}
-use Rattle.program_tree.specs.Programs.{Derives}
-use Rattle.tree_names.specs.Naming.{numbered}
+use Rattle.pascal_tree.specs.declared.program.Program.{Program as Tree}
+use Rattle.pascal_tree.specs.Programs.{Derives}
+use Rattle.pascal_tree.specs.Naming.{numbered}
 use Rattle.pascal_parser.specs.Whole.{DerivesStmt}
 use Rattle.simple_form.specs.Simple.{resolved}
 use Rattle.dice_session.specs.Reading.{Reading, TooLong, NotBuilt, Program, AreProgram, IsReading, Substitute, NoStatement, OneStatement, IsSubstitute}

@@ -3,9 +3,9 @@ use Rattle.std.proofs.Common.{◌≡◌, ℕ, zero, suc, Bool, true, false, List
 use Rattle.std.specs.Prelude.{◌==◌, if◌then◌else◌, find}
 use Rattle.dice_base.specs.declared.link.LinkTo.{LinkTo}
 use Rattle.dice_base.specs.declared.link.LinkTo.TheVariants.{Next}
-use Rattle.code_image.specs.Block.{First, Gate}
-use Rattle.code_image.specs.Semantics.{At}
-use Rattle.code_image.specs.Plain.{Program, State, Goes, Ended, Failed, IsLive, unless, ends_run, begun_at, moved, stretch_of, next, settle, drive}
+use Rattle.console_service.specs.Block.{First, Gate}
+use Rattle.console_service.specs.Semantics.{At}
+use Rattle.console_service.specs.Plain.{Program, State, Goes, Ended, Failed, IsLive, unless, ends_run, begun_at, moved, stretch_of, next, settle, drive}
 use Rattle.pascal_semantics.specs.declared.form.Statement.{Statement}
 use Rattle.pascal_semantics.specs.declared.form.SimpleForm.{SimpleForm}
 use Rattle.pascal_semantics.specs.declared.form.SimpleForm.TheVariants.{Assign, WriteLine, Empty}

@@ -3,10 +3,10 @@ use Rattle.std.specs.Prelude.{◌≡◌, ℕ, ◌<◌, ◌≤◌, true, List, le
 use Rattle.dice_base.specs.declared.token.TokenKind.{TokenKind}
 use Rattle.dice_base.specs.Lexemes.{Lexes}
 use Rattle.script_lines.specs.Front.{longest_text}
-use Rattle.program_tree.specs.declared.program.Program.{Program as Tree}
-use Rattle.program_tree.specs.declared.stmt.Stmt.{Stmt}
-use Rattle.program_tree.specs.Programs.{Derives}
-use Rattle.tree_names.specs.Naming.{numbered}
+use Rattle.pascal_tree.specs.declared.program.Program.{Program as Tree}
+use Rattle.pascal_tree.specs.declared.stmt.Stmt.{Stmt}
+use Rattle.pascal_tree.specs.Programs.{Derives}
+use Rattle.pascal_tree.specs.Naming.{numbered}
 use Rattle.pascal_parser.specs.Whole.{DerivesStmt}
 use Rattle.simple_form.specs.Simple.{resolved}
 

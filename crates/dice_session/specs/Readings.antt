@@ -3,10 +3,10 @@ use Rattle.std.specs.Prelude.{◌≡◌, ◌≤◌, true, List, length, Option, 
 use Rattle.std.specs.List.{AllByRecursion}
 use Rattle.pascal_semantics.specs.declared.form.Statement.{Statement}
 use Rattle.pascal_semantics.specs.Valid.{IsForm, AllDiffer, IsFree, program_name}
-use Rattle.program_tree.specs.declared.program.Program.{Program as Tree}
-use Rattle.program_tree.specs.declared.stmt.Stmt.{Stmt}
-use Rattle.program_tree.specs.Tokens.{Toks}
-use Rattle.tree_names.specs.Naming.{numbered}
+use Rattle.pascal_tree.specs.declared.program.Program.{Program as Tree}
+use Rattle.pascal_tree.specs.declared.stmt.Stmt.{Stmt}
+use Rattle.pascal_tree.specs.Tokens.{Toks}
+use Rattle.pascal_tree.specs.Naming.{numbered}
 use Rattle.simple_form.specs.Simple.{resolved}
 use Rattle.pascal_parser.specs.Whole.{DerivesStmt}
 use Rattle.dice_session.specs.Reading.{Reading, TooLong, NotBuilt, Program, AreProgram, Substitute, NoStatement, OneStatement}

@@ -3,8 +3,8 @@
 use Rattle.std.specs.Prelude.{◌≡◌, ℕ, ◌+◌, ◌≤◌, false, List, [], ◌∷◌, slice_index, Option, Some}
 use Rattle.console_service.specs.Run.{gate_here}
 use Rattle.console_service.specs.Cpu.{Cpu, state_of, code_begin, globals_begin, memory_end}
-use Rattle.code_image.specs.Block.{First, Gate, Block}
-use Rattle.code_image.specs.Image.{InWords, end_word, trap_word}
+use Rattle.console_service.specs.Block.{First, Gate, Block}
+use Rattle.console_service.specs.Image.{InWords, end_word, trap_word}
 use Rattle.pascal_semantics.specs.Valid.{program_name}
 use Rattle.pascal_semantics.specs.State.{Status, NotStarted, Halted, Ended, Failed, Activation, State}
 use Rattle.statement_code.specs.Gives.{HasGlobals}

@@ -4,8 +4,8 @@ use Rattle.std.specs.Prelude.{◌≡◌, ℕ, Bool, false, List, [], ◌∷◌, 
 use Rattle.pdp11_machine.specs.State.{State as MachineState}
 use Rattle.console_service.specs.Console.{ConsoleState}
 use Rattle.console_service.specs.Cpu.{Cpu, state_of, memory_end}
-use Rattle.code_image.specs.Block.{Block}
-use Rattle.code_image.specs.Image.{HasImage}
+use Rattle.console_service.specs.Block.{Block}
+use Rattle.console_service.specs.Image.{HasImage}
 use Rattle.image_plan.specs.Links.{blocks_of}
 use Rattle.image_plan.specs.Load.{placed, place_of, HasParts}
 use Rattle.pascal_semantics.specs.declared.form.Statement.{Statement}

@@ -1,6 +1,6 @@
 //! The draft: its listing, its edits, and how it becomes the present program.
 ghost use Rattle.std.specs.Prelude.{◌≡◌, ◌≤◌, ◌++◌, ℕ, List, length, Some, OnOk};
-ghost use Rattle.program_tree.specs.declared.program.Program.{Program as Tree};
+ghost use Rattle.pascal_tree.specs.declared.program.Program.{Program as Tree};
 ghost use Rattle.simple_form.specs.Simple.{resolved};
 ghost use Rattle.pdp11_machine.specs.State.{State as MachineState};
 ghost use Rattle.dice_command.specs.Command.{Replace};
@@ -15,8 +15,8 @@ use crate::session::{CODE_ROOM, Session};
 use dice_base::{Name, NoMemory, Text};
 use pascal_print::print_program;
 use pascal_semantics::{Statement, code_words};
+use pascal_tree::Stmt;
 use pdp11_machine::Machine;
-use program_tree::Stmt;
 use simple_form::{is_built, resolve_program};
 use std::alloc::Global;
 use tree_edit::replace;

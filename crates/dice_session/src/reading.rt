@@ -7,13 +7,14 @@ ghost use Rattle.dice_session.specs.Reading.{IsReading, IsSubstitute};
 ghost use Rattle.dice_session.specs.Readings.{reading_of, HasFound, IsReadingOf, IsReadingBy, substitute_of, IsSubstituteOf};
 
 use dice_base::{NoMemory, Token};
-use named_program::{Program, name_program};
 use pascal_parser::{ParseFault, parse_program, parse_statement};
 use pascal_scanner::{ScanFault, scan};
 use pascal_semantics::Statement;
-use program_tree::{Program as Tree, Stmt};
+use pascal_tree::{Program as Tree, Stmt};
+use program_tree::Program;
 use simple_form::resolve_program;
 use std::alloc::Global;
+use tree_names::number_program;
 
 /// What a text turns out to be that is to be loaded.
 #[derive(Drop)]
@@ -69,7 +70,8 @@ fn resolve(alloc: Global, tree: &Tree) -> Result<Found, NoMemory>
     ensures reading { IfOk result (λ found. IsReadingBy tree.now (reading_of found)) }
     ensures found { IfOk result HasFound }
 {
-    let program = name_program(alloc, tree)?;
+    let numbered = number_program(alloc, tree)?;
+    let program = Program::from_numbered(alloc, numbered)?;
     match resolve_program(alloc, &program)? {
         Some(simple) => Ok(Found::Program(program, simple.statements)),
         None => Ok(Found::NotBuilt),

@@ -2,7 +2,7 @@
 ghost use Rattle.std.specs.Prelude.{◌≡◌, ◌≤◌, ◌++◌, ℕ, List, [], ◌∷◌, length, take, true, false, None, Some, IfOk, OnOk, bytes_eq};
 ghost use Rattle.pdp11_machine.specs.State.{State as MachineState, zero_machine};
 ghost use Rattle.script_lines.specs.Front.{SameFront};
-ghost use Rattle.program_tree.specs.declared.program.Program.{Program as Tree};
+ghost use Rattle.pascal_tree.specs.declared.program.Program.{Program as Tree};
 ghost use Rattle.simple_form.specs.Simple.{resolved};
 ghost use Rattle.pascal_semantics.specs.Valid.{IsProgram};
 ghost use Rattle.dice_command.specs.Command.{asked, Blank, Load, Quit, IsWellRead};
@@ -20,9 +20,9 @@ use crate::text::longer;
 use console_service::Console;
 use dice_base::{NoMemory, Text};
 use dice_command::{CommandFault, LineCommand, parse_command};
-use named_program::Program;
 use pascal_semantics::{Statement, code_words};
 use pdp11_machine::Machine;
+use program_tree::Program;
 use std::alloc::Global;
 
 /// The words of the code area.

@@ -1,6 +1,6 @@
 -- The reader one level further in.
 use Rattle.std.proofs.Common.{◌≡◌, ℕ, ◌-◌, ◌<◌, Err, ap, length}
-use Rattle.program_tree.specs.Tokens.{Toks}
+use Rattle.pascal_tree.specs.Tokens.{Toks}
 use Rattle.grammar_laws.specs.declared.stop.Stop.TheVariants.{Deep}
 use Rattle.grammar_laws.specs.Reading.{inside, factor, expr}
 use Rattle.expression_parser.proofs.Turns.{deeper}

@@ -1,7 +1,7 @@
 -- A recursion on a count of turns, beside a loop that counts up.
 use Rattle.std.proofs.Common.{◌≡◌, ℕ, suc, ◌+◌, ◌-◌, ◌<◌, ◌≤◌, List, Ok, ap, arith}
 use Rattle.std.specs.Prelude.{Option}
-use Rattle.program_tree.specs.Tokens.{Toks}
+use Rattle.pascal_tree.specs.Tokens.{Toks}
 use Rattle.grammar_laws.specs.Parsers.{Parser, ◌>>=◌, more_of, many_from}
 
 pub deeper : {X : Type 0} (f : ℕ → X) (n : ℕ) → 0 < n → f n ≡ f (suc (n - 1))

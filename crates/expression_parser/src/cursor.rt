@@ -1,6 +1,6 @@
 //! The tokens that are left.
 ghost use Rattle.std.specs.Prelude.{◌≡◌, length, map};
-ghost use Rattle.program_tree.specs.Tokens.{class_of, class_at};
+ghost use Rattle.pascal_tree.specs.Tokens.{class_of, class_at};
 ghost use Rattle.grammar_laws.specs.Parsers as spec;
 ghost use Rattle.grammar_laws.specs.Parsers.{Reads};
 
@@ -31,7 +31,7 @@ pub struct Cursor<'a> {
 
 impl<'a> Model for Cursor<'a> {
     ghost use Rattle.std.specs.Prelude.{map};
-    ghost use Rattle.program_tree.specs.Tokens.{Toks};
+    ghost use Rattle.pascal_tree.specs.Tokens.{Toks};
 
     ghost Value = { Toks };
 

@@ -4,7 +4,7 @@ ghost use Rattle.std.specs.Prelude.{◌≡◌, [], ◌∷◌, IfOk};
 ghost use Rattle.grammar_laws.specs.Parsers as parsers;
 ghost use Rattle.grammar_laws.specs.Parsers.{Reads, separated, behind};
 ghost use Rattle.grammar_laws.specs.Reading as spec;
-ghost use Rattle.program_tree.specs.Expressions as grammar;
+ghost use Rattle.pascal_tree.specs.Expressions as grammar;
 ghost use Rattle.expression_parser.specs.Nests.{Nests};
 
 use crate::classes::{
@@ -13,7 +13,7 @@ use crate::classes::{
 };
 use crate::cursor::Cursor;
 use grammar_laws::Stop;
-use program_tree::{
+use pascal_tree::{
     Access, AccessPart, AddOp, AddPart, Expr, Factor, MulOp, MulPart, Prefix, RelOp, RelPart,
     SumExpr, Term,
 };

@@ -4,7 +4,7 @@ ghost use Rattle.std.specs.Prelude.{◌≡◌, length, IfOk};
 use super::*;
 use dice_base::{Span, Text, Token, TokenKind};
 use grammar_laws::Stop;
-use program_tree::{AccessPart, Factor};
+use pascal_tree::{AccessPart, Factor};
 use std::alloc::Global;
 use std::test::Fail;
 

@@ -1,17 +1,17 @@
 -- The rules of identifiers, lists and accesses.
 use Rattle.std.specs.Prelude.{◌≡◌, ℕ, List, [], ◌∷◌, ◌++◌, None, false, ◌⊎◌}
 use Rattle.std.proofs.Common.{refl, inl, inr, eqb, length, arith, length-append}
-use Rattle.program_tree.specs.declared.expr.Expr.{Expr}
-use Rattle.program_tree.specs.declared.expr.Access.{Access}
-use Rattle.program_tree.specs.declared.expr.AccessPart.{AccessPart}
-use Rattle.program_tree.specs.declared.expr.AccessPart.TheVariants as part
+use Rattle.pascal_tree.specs.declared.expr.Expr.{Expr}
+use Rattle.pascal_tree.specs.declared.expr.Access.{Access}
+use Rattle.pascal_tree.specs.declared.expr.AccessPart.{AccessPart}
+use Rattle.pascal_tree.specs.declared.expr.AccessPart.TheVariants as part
 use Rattle.dice_base.specs.declared.token.TokenKind.{TokenKind}
 use Rattle.dice_base.specs.declared.token.TokenKind.TheVariants.{Word, Ident, Number, Str, Sign, Hole}
-use Rattle.program_tree.specs.Tokens.{Toks, class_at}
-use Rattle.program_tree.specs.Symbols.{comma_sign, right_sign, left_sign, period_sign, arrow_sign, ident_class}
+use Rattle.pascal_tree.specs.Tokens.{Toks, class_at}
+use Rattle.pascal_tree.specs.Classes.{comma_class, right_class, left_class, period_class, arrow_class, ident_class}
 use Rattle.grammar_laws.specs.Parsers.{Parser, ◌>>=◌, pure, ident, ident_of, many_after, separated, behind}
-use Rattle.program_tree.specs.Forms.{Form, token, row, after_sep, list_of, named}
-use Rattle.program_tree.specs.Expressions.{index_form, field_form, deref_form, part_form, access_form}
+use Rattle.pascal_tree.specs.Forms.{Form, token, row, after_sep, list_of, named}
+use Rattle.pascal_tree.specs.Expressions.{index_form, field_form, deref_form, part_form, access_form}
 use Rattle.grammar_laws.proofs.Rules.{Rule, Item, Any, IsNot, ok, ok_value, ok_rest, seq, give, narrow, expect_rule, many_rule, row_follows, no_item, item_on, row_reads, row_takes}
 use Rattle.grammar_laws.specs.Reading as r
 use Rattle.grammar_laws.proofs.FactorRules.{Plain}
@@ -68,7 +68,7 @@ module _ {A : Type 0} (c : ℕ) (real : eqb 11 c ≡ false) (p : Parser A) (g : 
 
 -- what may not follow an access: `[`, `.` and `^`
 abbrev pub AccessEnds : ℕ → Type 0
-AccessEnds c = IsNot left_sign c × IsNot period_sign c × IsNot arrow_sign c
+AccessEnds c = IsNot left_class c × IsNot period_class c × IsNot arrow_class c
 
 pub access_starts : (E : Form Expr) (a : Access) (w : Unit {0}) (u rest : Toks) → access_form E a w u → class_at (u ++ rest) ≡ ident_class
 access_starts E a w u rest (x, v, y, z, e, g, h) = rw (e, g) refl
@@ -76,30 +76,30 @@ access_starts E a w u rest (x, v, y, z, e, g, h) = rw (e, g) refl
 pub first_class : {A : Type 0} (c : ℕ) (g : Form A) (a : A) (u rest : Toks) → token c g a tt u → class_at (u ++ rest) ≡ c
 first_class c g a u rest (t, v, e, is, h) = rw (e, is) refl
 
-module _ (inner : r.Inner) (E : Form Expr) (FE : ℕ → Type 0) (expr_rule : Rule Any (inner.expr) E Plain (λ _ c. FE c)) (comma_ends : FE comma_sign) (right_ends : FE right_sign) where
+module _ (inner : r.Inner) (E : Form Expr) (FE : ℕ → Type 0) (expr_rule : Rule Any (inner.expr) E Plain (λ _ c. FE c)) (comma_ends : FE comma_class) (right_ends : FE right_class) where
   abbrev FA : Unit {0} → ℕ → Type 0
   FA w c = Any c
 
   index_rule : Rule Any (r.index inner) (index_form E) Plain FA
   unfolding r.index
-  index_rule = seq (list_rule comma_sign refl (inner.expr) E FE expr_rule comma_ends) (λ found w. expect_rule right_sign refl _ _ Plain FA (give (part.Index found) tt FA)) (λ found w a v y rest (t, z, e, is, h) f. rw (e, is) (right_ends, (refl, tt)))
+  index_rule = seq (list_rule comma_class refl (inner.expr) E FE expr_rule comma_ends) (λ found w. expect_rule right_class refl _ _ Plain FA (give (part.Index found) tt FA)) (λ found w a v y rest (t, z, e, is, h) f. rw (e, is) (right_ends, (refl, tt)))
 
-  pub part_item : Item (r.access_part inner) (part_form E) Any (λ c. IsNot left_sign c × (IsNot period_sign c × (IsNot arrow_sign c × Any c)))
+  pub part_item : Item (r.access_part inner) (part_form E) Any (λ c. IsNot left_class c × (IsNot period_class c × (IsNot arrow_class c × Any c)))
   unfolding r.access_part
   part_item =
-      item_on left_sign refl (r.index inner) (index_form E) Any _ index_rule _ _
-      (item_on period_sign refl (ident >>= (λ x. pure (part.Field x))) field_form Any _ (seq (ident_rule FA) (λ x w. give (part.Field x) tt FA) (λ x w a v y rest h f. tt)) _ _
-      (item_on arrow_sign refl (pure part.Dereference) deref_form Any _ (give part.Dereference tt FA) _ _ (no_item Any) tt (λ a u rest no. absurd no))
+      item_on left_class refl (r.index inner) (index_form E) Any _ index_rule _ _
+      (item_on period_class refl (ident >>= (λ x. pure (part.Field x))) field_form Any _ (seq (ident_rule FA) (λ x w. give (part.Field x) tt FA) (λ x w a v y rest h f. tt)) _ _
+      (item_on arrow_class refl (pure part.Dereference) deref_form Any _ (give part.Dereference tt FA) _ _ (no_item Any) tt (λ a u rest no. absurd no))
       tt (λ a u rest x. not_dot a u rest x))
       tt (λ a u rest x. not_left a u rest x)
     where
-      not_dot : (a : AccessPart) (u rest : Toks) → (token arrow_sign deref_form a tt u ⊎ ⊥) → eqb (class_at (u ++ rest)) period_sign ≡ false
-      not_dot a u rest (inl x) = rw (first_class arrow_sign deref_form a u rest x) refl
+      not_dot : (a : AccessPart) (u rest : Toks) → (token arrow_class deref_form a tt u ⊎ ⊥) → eqb (class_at (u ++ rest)) period_class ≡ false
+      not_dot a u rest (inl x) = rw (first_class arrow_class deref_form a u rest x) refl
       not_dot a u rest (inr x) = absurd x
 
-      not_left : (a : AccessPart) (u rest : Toks) → (token period_sign field_form a tt u ⊎ (token arrow_sign deref_form a tt u ⊎ ⊥)) → eqb (class_at (u ++ rest)) left_sign ≡ false
-      not_left a u rest (inl x) = rw (first_class period_sign field_form a u rest x) refl
-      not_left a u rest (inr (inl x)) = rw (first_class arrow_sign deref_form a u rest x) refl
+      not_left : (a : AccessPart) (u rest : Toks) → (token period_class field_form a tt u ⊎ (token arrow_class deref_form a tt u ⊎ ⊥)) → eqb (class_at (u ++ rest)) left_class ≡ false
+      not_left a u rest (inl x) = rw (first_class period_class field_form a u rest x) refl
+      not_left a u rest (inr (inl x)) = rw (first_class arrow_class deref_form a u rest x) refl
       not_left a u rest (inr (inr x)) = absurd x
 
   pub access_rule : Rule Any (r.access inner) (access_form E) Plain (λ _ c. AccessEnds c)

@@ -2,11 +2,11 @@
 use Rattle.std.specs.Prelude.{◌≡◌, ℕ, Some, None}
 use Rattle.std.proofs.Common.{refl}
 use Rattle.std.proofs.lemmas.List.{append-nil}
-use Rattle.program_tree.specs.declared.expr.MulOp.{MulOp}
-use Rattle.program_tree.specs.declared.expr.Factor.{Factor}
+use Rattle.pascal_tree.specs.declared.expr.MulOp.{MulOp}
+use Rattle.pascal_tree.specs.declared.expr.Factor.{Factor}
 use Rattle.grammar_laws.specs.Parsers.{prefixed}
-use Rattle.program_tree.specs.Forms.{Form, behind_op}
-use Rattle.program_tree.specs.Expressions as g
+use Rattle.pascal_tree.specs.Forms.{Form, behind_op}
+use Rattle.pascal_tree.specs.Expressions as g
 use Rattle.grammar_laws.proofs.Rules.{Rule, Item, Any, seq, give, many_rule, op_item, row_follows}
 use Rattle.grammar_laws.specs.Reading as r
 

@@ -1,17 +1,17 @@
 -- The rule of factors.
 use Rattle.std.specs.Prelude.{◌≡◌, ℕ, [], ◌∷◌, ◌++◌}
 use Rattle.std.proofs.Common.{refl, append_assoc, inl, inr, eqb, false}
-use Rattle.program_tree.specs.declared.expr.Expr.{Expr}
-use Rattle.program_tree.specs.declared.expr.Factor.{Factor}
-use Rattle.program_tree.specs.declared.expr.Factor.TheVariants as f
-use Rattle.program_tree.specs.declared.expr.Access.{Access}
+use Rattle.pascal_tree.specs.declared.expr.Expr.{Expr}
+use Rattle.pascal_tree.specs.declared.expr.Factor.{Factor}
+use Rattle.pascal_tree.specs.declared.expr.Factor.TheVariants as f
+use Rattle.pascal_tree.specs.declared.expr.Access.{Access}
 use Rattle.dice_base.specs.declared.token.TokenKind.{TokenKind}
 use Rattle.dice_base.specs.declared.token.TokenKind.TheVariants.{Word, Ident, Number, Str, Sign, Hole}
-use Rattle.program_tree.specs.Tokens.{Toks, class_at}
-use Rattle.program_tree.specs.Symbols.{number_class, ident_class, open_sign, close_sign, not_word}
+use Rattle.pascal_tree.specs.Tokens.{Toks, class_at}
+use Rattle.pascal_tree.specs.Classes.{number_class, ident_class, open_class, close_class, not_class}
 use Rattle.grammar_laws.specs.Parsers.{Parser, ◌>>=◌, pure, refuse, number, number_of, deep}
-use Rattle.program_tree.specs.Forms.{Form, never, just, token, chain, either, numeral}
-use Rattle.program_tree.specs.Expressions.{access_form, number_form, variable_form, paren_in, not_in, factor_form}
+use Rattle.pascal_tree.specs.Forms.{Form, never, just, token, chain, either, numeral}
+use Rattle.pascal_tree.specs.Expressions.{access_form, number_form, variable_form, paren_in, not_in, factor_form}
 use Rattle.grammar_laws.proofs.Rules.{Rule, Any, ok, ok_value, ok_rest, seq, give, before, token_rule, expect_rule, choice_rule}
 use Rattle.grammar_laws.specs.Reading as r
 
@@ -56,7 +56,7 @@ number_rule F = record {
 
 module _ (inner : r.Inner) (E : Form Expr) (N : Form Factor) (FE F : ℕ → Type 0)
     (expr_rule : Rule Any (inner.expr) E Plain (λ _ c. FE c))
-    (close_ends : FE close_sign)
+    (close_ends : FE close_class)
     (operand_rule : Rule Any (inner.factor) N Plain (λ _ c. F c))
     (access_rule : Rule Any (r.access inner) (access_form E) Plain (λ _ c. F c))
     (access_starts : (a : Access) (w : Unit {0}) (u rest : Toks) → access_form E a w u → class_at (u ++ rest) ≡ ident_class)
@@ -68,9 +68,9 @@ module _ (inner : r.Inner) (E : Form Expr) (N : Form Factor) (FE F : ℕ → Typ
     made : {X : Type 0} {p : Parser X} {g : Form X} (make : X → Factor) → Rule Any p g Plain FF → Rule Any (p >>= (λ x. pure (make x))) (chain g (λ x _. just (make x) tt)) Plain FF
     made make first = seq first (λ x w. give (make x) tt FF) (λ x w b v y rest h f. rw h.2 f)
 
-    paren_rule : Rule Any (r.paren inner) (chain E (λ e _. token close_sign (just (f.Paren e) tt))) Plain FF
+    paren_rule : Rule Any (r.paren inner) (chain E (λ e _. token close_class (just (f.Paren e) tt))) Plain FF
     unfolding r.paren
-    paren_rule = seq expr_rule (λ e w. expect_rule close_sign refl _ _ Plain FF (give (f.Paren e) tt FF)) (λ e w b v y rest (t, z, is, k, h) f. rw (is, k) close_ends)
+    paren_rule = seq expr_rule (λ e w. expect_rule close_class refl _ _ Plain FF (give (f.Paren e) tt FF)) (λ e w b v y rest (t, z, is, k, h) f. rw (is, k) close_ends)
 
     pub class_number : (a : Factor) (w : Unit {0}) (u rest : Toks) → number_form a w u → class_at (u ++ rest) ≡ number_class
     class_number a w u rest (n, v, x, y, e, g, h) = rw (e, g) refl
@@ -90,32 +90,32 @@ module _ (inner : r.Inner) (E : Form Expr) (N : Form Factor) (FE F : ℕ → Typ
         (choice_rule ident_class Any _ _ _ _ Plain FF
         (before _ (λ k h. tt) (made f.Access access_rule))
         (before _ (λ k h. tt)
-        (choice_rule open_sign Any _ _ _ _ Plain FF
-        (before _ (λ k h. h.1) (token_rule open_sign refl _ _ Plain FF paren_rule))
+        (choice_rule open_class Any _ _ _ _ Plain FF
+        (before _ (λ k h. h.1) (token_rule open_class refl _ _ Plain FF paren_rule))
         (before _ (λ k h. tt)
-        (choice_rule not_word Any _ _ _ _ Plain FF
-        (before _ (λ k h. h.1) (token_rule not_word refl _ _ Plain FF (made f.Not operand_rule)))
+        (choice_rule not_class Any _ _ _ _ Plain FF
+        (before _ (λ k h. h.1) (token_rule not_class refl _ _ Plain FF (made f.Not operand_rule)))
         (never_rule _ FF)
-        (λ a w u rest x f. rw (class_token not_word (not_in N) a w u rest x) refl)
+        (λ a w u rest x f. rw (class_token not_class (not_in N) a w u rest x) refl)
         (λ a w u rest x f. absurd x)))
-        (λ a w u rest x f. rw (class_token open_sign (paren_in E) a w u rest x) refl)
-        (λ a w u rest x f. later open_sign a w u rest x)))
+        (λ a w u rest x f. rw (class_token open_class (paren_in E) a w u rest x) refl)
+        (λ a w u rest x f. later open_class a w u rest x)))
         (λ a w u rest x f. rw (class_access a w u rest x) refl)
         (λ a w u rest x f. last ident_class a w u rest x)))
         (λ a w u rest x f. rw (class_number a w u rest x) refl)
         (λ a w u rest x f. rest_of a w u rest x)
       where
-        later : (c : ℕ) (a : Factor) (w : Unit {0}) (u rest : Toks) → either (token not_word (not_in N)) never a w u → eqb (class_at (u ++ rest)) open_sign ≡ false
-        later c a w u rest (inl x) = rw (class_token not_word (not_in N) a w u rest x) refl
+        later : (c : ℕ) (a : Factor) (w : Unit {0}) (u rest : Toks) → either (token not_class (not_in N)) never a w u → eqb (class_at (u ++ rest)) open_class ≡ false
+        later c a w u rest (inl x) = rw (class_token not_class (not_in N) a w u rest x) refl
         later c a w u rest (inr x) = absurd x
 
-        last : (c : ℕ) (a : Factor) (w : Unit {0}) (u rest : Toks) → either (token open_sign (paren_in E)) (either (token not_word (not_in N)) never) a w u → eqb (class_at (u ++ rest)) ident_class ≡ false
-        last c a w u rest (inl x) = rw (class_token open_sign (paren_in E) a w u rest x) refl
-        last c a w u rest (inr (inl x)) = rw (class_token not_word (not_in N) a w u rest x) refl
+        last : (c : ℕ) (a : Factor) (w : Unit {0}) (u rest : Toks) → either (token open_class (paren_in E)) (either (token not_class (not_in N)) never) a w u → eqb (class_at (u ++ rest)) ident_class ≡ false
+        last c a w u rest (inl x) = rw (class_token open_class (paren_in E) a w u rest x) refl
+        last c a w u rest (inr (inl x)) = rw (class_token not_class (not_in N) a w u rest x) refl
         last c a w u rest (inr (inr x)) = absurd x
 
-        rest_of : (a : Factor) (w : Unit {0}) (u rest : Toks) → either (variable_form E) (either (token open_sign (paren_in E)) (either (token not_word (not_in N)) never)) a w u → eqb (class_at (u ++ rest)) number_class ≡ false
+        rest_of : (a : Factor) (w : Unit {0}) (u rest : Toks) → either (variable_form E) (either (token open_class (paren_in E)) (either (token not_class (not_in N)) never)) a w u → eqb (class_at (u ++ rest)) number_class ≡ false
         rest_of a w u rest (inl x) = rw (class_access a w u rest x) refl
-        rest_of a w u rest (inr (inl x)) = rw (class_token open_sign (paren_in E) a w u rest x) refl
-        rest_of a w u rest (inr (inr (inl x))) = rw (class_token not_word (not_in N) a w u rest x) refl
+        rest_of a w u rest (inr (inl x)) = rw (class_token open_class (paren_in E) a w u rest x) refl
+        rest_of a w u rest (inr (inr (inl x))) = rw (class_token not_class (not_in N) a w u rest x) refl
         rest_of a w u rest (inr (inr (inr x))) = absurd x

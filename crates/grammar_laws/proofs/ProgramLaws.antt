@@ -2,14 +2,14 @@
 use Rattle.std.specs.Prelude.{◌≡◌, ℕ, [], ◌∷◌, ◌++◌}
 use Rattle.std.proofs.Common.{refl, sym, subst, ◌∙◌, eqb, true}
 use Rattle.std.proofs.lemmas.List.{append-nil}
-use Rattle.program_tree.specs.declared.decl.Decl.{Decl}
-use Rattle.program_tree.specs.declared.program.Program.{Program}
-use Rattle.program_tree.specs.declared.stmt.Stmt.{Stmt}
-use Rattle.program_tree.specs.Tokens.{Toks, class_at}
-use Rattle.program_tree.specs.Symbols.{begin_word, program_word, var_word, ident_class, period_sign, comma_sign, semicolon_sign, colon_sign}
-use Rattle.program_tree.specs.Forms.{Form, named}
-use Rattle.program_tree.specs.Statements.{compound_in, compound_form, stmt_at}
-use Rattle.program_tree.specs.Programs.{make_var, make_block, make_program, var_form, vars_in, vars_form, block_form, program_form, Derives}
+use Rattle.pascal_tree.specs.declared.decl.Decl.{Decl}
+use Rattle.pascal_tree.specs.declared.program.Program.{Program}
+use Rattle.pascal_tree.specs.declared.stmt.Stmt.{Stmt}
+use Rattle.pascal_tree.specs.Tokens.{Toks, class_at}
+use Rattle.pascal_tree.specs.Classes.{begin_class, program_class, var_class, ident_class, period_class, comma_class, semicolon_class, colon_class}
+use Rattle.pascal_tree.specs.Forms.{Form, named}
+use Rattle.pascal_tree.specs.Statements.{compound_in, compound_form, stmt_at}
+use Rattle.pascal_tree.specs.Programs.{make_var, make_block, make_program, var_form, vars_in, vars_form, block_form, program_form, Derives}
 use Rattle.grammar_laws.specs.Parsers.{Parser, ident}
 use Rattle.grammar_laws.specs.ProgramReading as read
 use Rattle.grammar_laws.specs.StmtReading.{compound, stmt_in}
@@ -24,9 +24,9 @@ FA w c = Any c
 var_rule : Rule Any read.var_decl var_form Plain FA
 unfolding read.var_decl
 var_rule =
-    seq (list_rule comma_sign refl ident named Any (ident_rule FA) tt)
-    (λ xs _. expect_rule colon_sign refl _ _ Plain FA
-    (seq (ident_rule FA) (λ x _. expect_rule semicolon_sign refl _ _ Plain FA (give (make_var xs x) tt FA)) (λ x w b v y rest h f. tt)))
+    seq (list_rule comma_class refl ident named Any (ident_rule FA) tt)
+    (λ xs _. expect_rule colon_class refl _ _ Plain FA
+    (seq (ident_rule FA) (λ x _. expect_rule semicolon_class refl _ _ Plain FA (give (make_var xs x) tt FA)) (λ x w b v y rest h f. tt)))
     (λ xs w b v y rest (t, z, e, is, h) f. rw (e, is) (tt, (refl, tt)))
 
 var_starts : (d : Decl) (u rest : Toks) → var_form d tt u → eqb (class_at (u ++ rest)) ident_class ≡ true
@@ -38,7 +38,7 @@ vars_item = item_from ident_class read.var_decl var_form Any var_rule var_starts
 
 -- what may follow the variables
 abbrev VarsEnd : Unit {0} → ℕ → Type 0
-VarsEnd w c = IsNot var_word c × (Any c × IsNot ident_class c)
+VarsEnd w c = IsNot var_class c × (Any c × IsNot ident_class c)
 
 vars_in_rule : Rule Any read.vars_in vars_in Plain VarsEnd
 unfolding read.vars_in
@@ -50,16 +50,16 @@ vars_in_rule =
 vars_rule : Rule Any read.vars vars_form Plain VarsEnd
 unfolding read.vars
 vars_rule =
-    choice_rule var_word Any _ _ _ _ Plain VarsEnd
-    (before _ (λ k h. h.1) (token_rule var_word refl _ _ Plain VarsEnd vars_in_rule))
+    choice_rule var_class Any _ _ _ _ Plain VarsEnd
+    (before _ (λ k h. h.1) (token_rule var_class refl _ _ Plain VarsEnd vars_in_rule))
     (before _ (λ k h. tt) (give [] tt VarsEnd))
-    (λ ds w u rest x f. rw (first_class var_word vars_in ds u rest x) refl)
+    (λ ds w u rest x f. rw (first_class var_class vars_in ds u rest x) refl)
     (λ ds w u rest x f. rw x.2 f.0)
 
 module _ (stmt : Parser Stmt) (S : Form Stmt) (compounds : Rule Any (compound stmt) (compound_in S) Plain FA) where
   body_rule : Rule Any (read.body stmt) (compound_form S) Plain FA
   unfolding read.body
-  body_rule = expect_rule begin_word refl _ _ Plain FA compounds
+  body_rule = expect_rule begin_class refl _ _ Plain FA compounds
 
   block_rule : Rule Any (read.block stmt) (block_form S) Plain FA
   unfolding read.block
@@ -71,10 +71,10 @@ module _ (stmt : Parser Stmt) (S : Form Stmt) (compounds : Rule Any (compound st
   program_step : Rule Any (read.program stmt) (program_form S) Plain FA
   unfolding read.program
   program_step =
-      expect_rule program_word refl _ _ Plain FA
+      expect_rule program_class refl _ _ Plain FA
       (seq (ident_rule FA)
-      (λ x _. expect_rule semicolon_sign refl _ _ Plain FA
-      (seq block_rule (λ b _. expect_rule period_sign refl _ _ Plain FA (give (make_program x b) tt FA)) (λ b w a v y rest h f. tt)))
+      (λ x _. expect_rule semicolon_class refl _ _ Plain FA
+      (seq block_rule (λ b _. expect_rule period_class refl _ _ Plain FA (give (make_program x b) tt FA)) (λ b w a v y rest h f. tt)))
       (λ x w a v y rest h f. tt))
 
 program_rule : Rule Any (read.program (stmt_in 62)) (program_form (stmt_at 62)) Plain FA

@@ -3,21 +3,21 @@ use Rattle.std.specs.Prelude.{◌≡◌, ℕ, List, [], ◌∷◌, ◌++◌, Opt
 use Rattle.std.proofs.Common.{refl, sym, subst, append_assoc, inl, inr, eqb}
 use Rattle.std.proofs.lemmas.List.{append-nil}
 use Rattle.std.proofs.lemmas.Bool.{cases_Bool, eqb-true}
-use Rattle.program_tree.specs.declared.expr.MulOp.{MulOp}
-use Rattle.program_tree.specs.declared.expr.AddOp.{AddOp}
-use Rattle.program_tree.specs.declared.expr.RelOp.{RelOp}
-use Rattle.program_tree.specs.declared.expr.Prefix.{Prefix}
-use Rattle.program_tree.specs.declared.expr.Prefix.TheVariants as prefix
-use Rattle.program_tree.specs.declared.expr.RelPart.{RelPart}
-use Rattle.program_tree.specs.declared.expr.Term.{Term}
-use Rattle.program_tree.specs.declared.expr.Factor.{Factor}
-use Rattle.program_tree.specs.Tokens.{Toks, class_at}
-use Rattle.program_tree.specs.Symbols.{plus_sign, minus_sign}
+use Rattle.pascal_tree.specs.declared.expr.MulOp.{MulOp}
+use Rattle.pascal_tree.specs.declared.expr.AddOp.{AddOp}
+use Rattle.pascal_tree.specs.declared.expr.RelOp.{RelOp}
+use Rattle.pascal_tree.specs.declared.expr.Prefix.{Prefix}
+use Rattle.pascal_tree.specs.declared.expr.Prefix.TheVariants as prefix
+use Rattle.pascal_tree.specs.declared.expr.RelPart.{RelPart}
+use Rattle.pascal_tree.specs.declared.expr.Term.{Term}
+use Rattle.pascal_tree.specs.declared.expr.Factor.{Factor}
+use Rattle.pascal_tree.specs.Tokens.{Toks, class_at}
+use Rattle.pascal_tree.specs.Classes.{plus_class, minus_class}
 use Rattle.grammar_laws.specs.Parsers.{Parser, prefixed}
-use Rattle.program_tree.specs.Forms.{Form, just, token, either, opt, behind_op}
-use Rattle.program_tree.specs.Forms as g
-use Rattle.program_tree.specs.Expressions as s
-use Rattle.program_tree.specs.Expressions.{sign_form, sum_form, expr_form}
+use Rattle.pascal_tree.specs.Forms.{Form, just, token, either, opt, behind_op}
+use Rattle.pascal_tree.specs.Forms as g
+use Rattle.pascal_tree.specs.Expressions as s
+use Rattle.pascal_tree.specs.Expressions.{sign_form, sum_form, expr_form}
 use Rattle.grammar_laws.proofs.Rules.{Rule, Found, Item, Any, IsNot, ok, seq, give, before, token_rule, choice_rule, many_rule, op_item, row_follows}
 use Rattle.grammar_laws.specs.Reading as r
 use Rattle.grammar_laws.proofs.FactorRules.{Plain}
@@ -64,7 +64,7 @@ opt_rule {A} p g F S item = record { reads = λ ts o rest pre e. reads ts o rest
 
 abbrev pub SignEnds : Bool → ℕ → Type 0
 SignEnds true c = Unit {0}
-SignEnds false c = IsNot plus_sign c × IsNot minus_sign c
+SignEnds false c = IsNot plus_class c × IsNot minus_class c
 
 abbrev SD : Bool → ℕ → Type 0
 SD w c = Unit {0}
@@ -75,19 +75,19 @@ sign_class c p a w u rest (t, v, e, is, h) = rw (e, is) refl
 pub sign_rule : Rule Any r.sign sign_form SD SignEnds
 unfolding r.sign
 sign_rule =
-    choice_rule plus_sign Any _ _ _ _ SD SignEnds
-    (before _ (λ k h. h.1) (token_rule plus_sign refl _ _ SD SignEnds (give prefix.Plus true SignEnds)))
+    choice_rule plus_class Any _ _ _ _ SD SignEnds
+    (before _ (λ k h. h.1) (token_rule plus_class refl _ _ SD SignEnds (give prefix.Plus true SignEnds)))
     (before _ (λ k h. tt)
-    (choice_rule minus_sign Any _ _ _ _ SD SignEnds
-    (before _ (λ k h. h.1) (token_rule minus_sign refl _ _ SD SignEnds (give prefix.Minus true SignEnds)))
+    (choice_rule minus_class Any _ _ _ _ SD SignEnds
+    (before _ (λ k h. h.1) (token_rule minus_class refl _ _ SD SignEnds (give prefix.Minus true SignEnds)))
     (before _ (λ k h. tt) (give prefix.Without false SignEnds))
-    (λ a w u rest x f. rw (sign_class minus_sign prefix.Minus a w u rest x) refl)
+    (λ a w u rest x f. rw (sign_class minus_class prefix.Minus a w u rest x) refl)
     (λ a w u rest x f. rw x.2 ((subst (λ (b : Bool). SignEnds b (class_at rest)) x.1 f).1))))
-    (λ a w u rest x f. rw (sign_class plus_sign prefix.Plus a w u rest x) refl)
+    (λ a w u rest x f. rw (sign_class plus_class prefix.Plus a w u rest x) refl)
     (λ a w u rest x f. no_plus a w u rest x f)
   where
-    no_plus : (a : Prefix) (w : Bool) (u rest : Toks) → either (token minus_sign (just prefix.Minus true)) (just prefix.Without false) a w u → SignEnds w (class_at rest) → eqb (class_at (u ++ rest)) plus_sign ≡ false
-    no_plus a w u rest (inl x) f = rw (sign_class minus_sign prefix.Minus a w u rest x) refl
+    no_plus : (a : Prefix) (w : Bool) (u rest : Toks) → either (token minus_class (just prefix.Minus true)) (just prefix.Without false) a w u → SignEnds w (class_at rest) → eqb (class_at (u ++ rest)) plus_class ≡ false
+    no_plus a w u rest (inl x) f = rw (sign_class minus_class prefix.Minus a w u rest x) refl
     no_plus a w u rest (inr x) f = rw x.2 ((subst (λ (b : Bool). SignEnds b (class_at rest)) x.1 f).0)
 
 -- ---- sums and expressions, over any form of factors

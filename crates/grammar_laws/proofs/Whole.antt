@@ -1,16 +1,16 @@
 -- What an expression is spelled by, with this many levels, and that the reader reads exactly that.
 use Rattle.std.specs.Prelude.{◌≡◌, ℕ, zero, suc, ◌++◌, Some}
 use Rattle.std.proofs.Common.{refl, append_assoc, inl, inr, false}
-use Rattle.program_tree.specs.declared.expr.AddOp.{AddOp}
-use Rattle.program_tree.specs.declared.expr.RelOp.{RelOp}
-use Rattle.program_tree.specs.declared.expr.Expr.{Expr}
-use Rattle.program_tree.specs.declared.expr.Factor.{Factor}
-use Rattle.program_tree.specs.Tokens.{Toks, class_at}
+use Rattle.pascal_tree.specs.declared.expr.AddOp.{AddOp}
+use Rattle.pascal_tree.specs.declared.expr.RelOp.{RelOp}
+use Rattle.pascal_tree.specs.declared.expr.Expr.{Expr}
+use Rattle.pascal_tree.specs.declared.expr.Factor.{Factor}
+use Rattle.pascal_tree.specs.Tokens.{Toks, class_at}
 use Rattle.grammar_laws.proofs.Rules.{Rule, Any}
 use Rattle.grammar_laws.specs.Reading as r
-use Rattle.program_tree.specs.Forms.{Form}
-use Rattle.program_tree.specs.Expressions.{factor_form, expr_form, expr_at, factor_at}
-use Rattle.program_tree.specs.Expressions as s
+use Rattle.pascal_tree.specs.Forms.{Form}
+use Rattle.pascal_tree.specs.Expressions.{factor_form, expr_form, expr_at, factor_at}
+use Rattle.pascal_tree.specs.Expressions as s
 use Rattle.grammar_laws.proofs.FactorRules.{Plain, deep_rule, factor_rule}
 use Rattle.grammar_laws.proofs.ExprLaws.{AccessEnds, access_starts, access_rule}
 use Rattle.grammar_laws.proofs.SumLaws.{SignEnds, TermEnds, SumEnds, ExprEnds, op_apart, expr_rule}

@@ -1,21 +1,21 @@
 -- Programs, read from left to right.
 use Rattle.std.specs.Prelude.{List, [], ◌∷◌, Option, Some, None}
-use Rattle.program_tree.specs.declared.decl.Decl.{Decl}
-use Rattle.program_tree.specs.declared.decl.Block.{Block}
-use Rattle.program_tree.specs.declared.program.Program.{Program}
-use Rattle.program_tree.specs.declared.stmt.Stmt.{Stmt}
-use Rattle.program_tree.specs.declared.stmt.StmtKind.{StmtKind}
-use Rattle.program_tree.specs.Symbols.{begin_word, program_word, var_word, ident_class, period_sign, comma_sign, semicolon_sign, colon_sign}
-use Rattle.program_tree.specs.Programs.{make_var, make_block, make_program}
+use Rattle.pascal_tree.specs.declared.decl.Decl.{Decl}
+use Rattle.pascal_tree.specs.declared.decl.Block.{Block}
+use Rattle.pascal_tree.specs.declared.program.Program.{Program}
+use Rattle.pascal_tree.specs.declared.stmt.Stmt.{Stmt}
+use Rattle.pascal_tree.specs.declared.stmt.StmtKind.{StmtKind}
+use Rattle.pascal_tree.specs.Classes.{begin_class, program_class, var_class, ident_class, period_class, comma_class, semicolon_class, colon_class}
+use Rattle.pascal_tree.specs.Programs.{make_var, make_block, make_program}
 use Rattle.grammar_laws.specs.Parsers.{Parser, ◌>>=◌, ◌>>◌, pure, on, from, expect, ident, separated, many}
 use Rattle.grammar_laws.specs.StmtReading.{compound}
 
 unfoldable pub var_decl : Parser Decl
 var_decl = do
-  xs ← separated comma_sign ident
-  expect colon_sign
+  xs ← separated comma_class ident
+  expect colon_class
   x ← ident
-  expect semicolon_sign
+  expect semicolon_class
   pure (make_var xs x)
 
 unfoldable pub more_vars : Parser (Option Decl)
@@ -28,12 +28,12 @@ vars_in = do
   pure (d ∷ ds)
 
 unfoldable pub vars : Parser (List Decl)
-vars = on var_word vars_in (pure [])
+vars = on var_class vars_in (pure [])
 
 module _ (stmt : Parser Stmt) where
   unfoldable pub body : Parser StmtKind
   body = do
-    expect begin_word
+    expect begin_class
     compound stmt
 
   unfoldable pub block : Parser Block
@@ -44,9 +44,9 @@ module _ (stmt : Parser Stmt) where
 
   unfoldable pub program : Parser Program
   program = do
-    expect program_word
+    expect program_class
     x ← ident
-    expect semicolon_sign
+    expect semicolon_class
     b ← block
-    expect period_sign
+    expect period_class
     pure (make_program x b)

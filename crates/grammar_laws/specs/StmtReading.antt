@@ -1,20 +1,20 @@
 -- Statements, read from left to right.
 use Rattle.std.specs.Prelude.{ℕ, zero, suc, List, [], ◌∷◌, Option, Some, None}
-use Rattle.program_tree.specs.declared.expr.Expr.{Expr}
-use Rattle.program_tree.specs.declared.expr.Arg.{Arg}
-use Rattle.program_tree.specs.declared.expr.AccessPart.{AccessPart}
-use Rattle.program_tree.specs.declared.stmt.Stmt.{Stmt}
-use Rattle.program_tree.specs.declared.stmt.StmtKind.{StmtKind}
-use Rattle.program_tree.specs.declared.stmt.StmtKind.TheVariants as s
-use Rattle.program_tree.specs.Symbols.{begin_word, end_word, ident_class, open_sign, close_sign, becomes_sign, comma_sign, semicolon_sign, colon_sign}
-use Rattle.program_tree.specs.Expressions.{make_access}
-use Rattle.program_tree.specs.Statements.{make_arg, make_stmt}
+use Rattle.pascal_tree.specs.declared.expr.Expr.{Expr}
+use Rattle.pascal_tree.specs.declared.expr.Arg.{Arg}
+use Rattle.pascal_tree.specs.declared.expr.AccessPart.{AccessPart}
+use Rattle.pascal_tree.specs.declared.stmt.Stmt.{Stmt}
+use Rattle.pascal_tree.specs.declared.stmt.StmtKind.{StmtKind}
+use Rattle.pascal_tree.specs.declared.stmt.StmtKind.TheVariants as s
+use Rattle.pascal_tree.specs.Classes.{begin_class, end_class, ident_class, open_class, close_class, becomes_class, comma_class, semicolon_class, colon_class}
+use Rattle.pascal_tree.specs.Expressions.{make_access}
+use Rattle.pascal_tree.specs.Statements.{make_arg, make_stmt}
 use Rattle.grammar_laws.specs.Parsers.{Parser, ◌>>=◌, ◌>>◌, pure, refuse, on, from, expect, ident, separated, many, deep}
 use Rattle.grammar_laws.specs.Reading.{Inner, inside, expr, access_part}
 
 module _ (inner : Inner) where
   unfoldable pub width : Parser (Option Expr)
-  width = on colon_sign (inner.expr >>= (λ e. pure (Some e))) (pure None)
+  width = on colon_class (inner.expr >>= (λ e. pure (Some e))) (pure None)
 
   unfoldable pub arg : Parser Arg
   arg = do
@@ -24,12 +24,12 @@ module _ (inner : Inner) where
 
   unfoldable pub args_in : Parser (List Arg)
   args_in = do
-    args ← separated comma_sign arg
-    expect close_sign
+    args ← separated comma_class arg
+    expect close_class
     pure args
 
   unfoldable pub args : Parser (List Arg)
-  args = on open_sign args_in (pure [])
+  args = on open_class args_in (pure [])
 
   unfoldable pub call : List ℕ → List AccessPart → Parser StmtKind
   call x [] = args >>= (λ args. pure (s.Call x args))
@@ -43,18 +43,18 @@ module _ (inner : Inner) where
   named = do
     x ← ident
     parts ← many (access_part inner)
-    on becomes_sign (assign x parts) (call x parts)
+    on becomes_class (assign x parts) (call x parts)
 
 module _ (stmt : Parser Stmt) where
   unfoldable pub compound : Parser StmtKind
   compound = do
-    found ← separated semicolon_sign stmt
-    expect end_word
+    found ← separated semicolon_class stmt
+    expect end_class
     pure (s.Compound found)
 
 module _ (inner : Inner) (stmt : Parser Stmt) where
   unfoldable pub kind : Parser StmtKind
-  kind = on begin_word (compound stmt) (from ident_class (named inner) (pure s.Empty))
+  kind = on begin_class (compound stmt) (from ident_class (named inner) (pure s.Empty))
 
   unfoldable pub statement : Parser Stmt
   statement = do

@@ -6,10 +6,10 @@ use Rattle.std.proofs.lemmas.List.{get_or-set_other}
 use Rattle.dice_base.specs.declared.link.LinkTo.{LinkTo}
 use Rattle.console_service.specs.Cpu.{HasAt, code_begin, globals_begin}
 use Rattle.console_service.proofs.Compose.{has_front, has_back}
-use Rattle.code_image.specs.declared.block.BlockCode.{BlockCode}
-use Rattle.code_image.specs.Block.{Gate, Block, laid, linked, or_zero, place_in, place_of}
-use Rattle.code_image.specs.BlockOf.{block_of, link_of, first_of}
-use Rattle.code_image.specs.Image.{Lies, IsEnd, HasLink}
+use Rattle.console_service.specs.declared.block.BlockCode.{BlockCode}
+use Rattle.console_service.specs.Block.{Gate, Block, laid, linked, or_zero, place_in, place_of}
+use Rattle.console_service.specs.BlockOf.{block_of, link_of, first_of}
+use Rattle.console_service.specs.Image.{Lies, IsEnd, HasLink}
 use Rattle.pascal_semantics.specs.declared.form.Statement.{Statement}
 use Rattle.pascal_semantics.specs.Charge.{charge_of, program_charge}
 use Rattle.pascal_semantics.specs.Program.{Program, Target, Gate as GateOf, Finish, Row, row_of, rows_of, entry_of, program_of}

@@ -6,10 +6,10 @@ use Rattle.dice_base.specs.declared.link.LinkTo.{LinkTo}
 use Rattle.dice_base.specs.declared.link.LinkWord.{LinkWord}
 use Rattle.console_service.specs.Cpu.{HasAt, code_begin}
 use Rattle.console_service.proofs.Compose.{has_front, has_back}
-use Rattle.code_image.specs.declared.block.BlockCode.{BlockCode}
-use Rattle.code_image.specs.Block.{Block, linked, set_at}
-use Rattle.code_image.specs.BlockOf.{block_of, link_of}
-use Rattle.code_image.proofs.Stretch.{length_linked}
+use Rattle.console_service.specs.declared.block.BlockCode.{BlockCode}
+use Rattle.console_service.specs.Block.{Block, linked, set_at}
+use Rattle.console_service.specs.BlockOf.{block_of, link_of}
+use Rattle.console_service.proofs.Stretch.{length_linked}
 use Rattle.pascal_semantics.specs.declared.form.Statement.{Statement}
 use Rattle.pascal_semantics.specs.Program.{Target, Gate as GateOf, Finish, Row, rows_of, entry_of}
 use Rattle.pascal_semantics.specs.Valid.{program_name, IsFree, AllDiffer}

@@ -2,7 +2,7 @@
 use Rattle.std.proofs.Common.{◌≡◌, ℕ, zero, suc, ◌+◌, ◌<◌, ◌≤◌, List, [], ◌∷◌, ◌++◌, length, get_or, take, take_all, None, refl, ap, ◌∙◌, subst, arith}
 use Rattle.std.proofs.Math.Seq.{take-suc}
 use Rattle.std.specs.List.{AllByRecursion}
-use Rattle.code_image.specs.declared.block.BlockCode.{BlockCode}
+use Rattle.console_service.specs.declared.block.BlockCode.{BlockCode}
 use Rattle.pascal_semantics.specs.declared.form.Statement.{Statement}
 use Rattle.pascal_semantics.specs.declared.form.Operand.TheVariants.{Global}
 use Rattle.pascal_semantics.specs.declared.form.SimpleForm.TheVariants.{Assign}

@@ -2,9 +2,9 @@
 use Rattle.std.specs.Prelude.{◌≡◌, ℕ, ◌+◌, ◌<◌, List, [], ◌∷◌, ◌++◌, length, map}
 use Rattle.dice_base.specs.declared.link.LinkWord.{LinkWord}
 use Rattle.console_service.specs.Cpu.{code_begin}
-use Rattle.code_image.specs.declared.block.BlockCode.{BlockCode}
-use Rattle.code_image.specs.Block.{linked, or_zero}
-use Rattle.code_image.specs.BlockOf.{link_of}
+use Rattle.console_service.specs.declared.block.BlockCode.{BlockCode}
+use Rattle.console_service.specs.Block.{linked, or_zero}
+use Rattle.console_service.specs.BlockOf.{link_of}
 use Rattle.pascal_semantics.specs.declared.form.Statement.{Statement}
 use Rattle.statement_code.specs.Forms.{StatementBlock}
 use Rattle.statement_code.specs.Emitted.{IsCodeOf, IsStatementCode}

@@ -1,7 +1,7 @@
 -- A program as the level of blocks sees it: the form of each block, and where its link words lead.
 use Rattle.std.specs.Prelude.{◌==◌, if◌then◌else◌, Option, Some, None}
-use Rattle.code_image.specs.Block.{Gate, End, Spot}
-use Rattle.code_image.specs.Plain.{Program}
+use Rattle.console_service.specs.Block.{Gate, End, Spot}
+use Rattle.console_service.specs.Plain.{Program}
 use Rattle.pascal_semantics.specs.Program.{Program as PascalProgram, Row, Target, Gate as GateOf, Finish, row_of}
 use Rattle.pascal_semantics.specs.Valid.{program_name}
 use Rattle.statement_code.specs.Forms.{BlockForm, ProgramBlock, StatementBlock}

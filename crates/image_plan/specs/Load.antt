@@ -1,8 +1,8 @@
 -- The blocks of a whole load: the program's block at byte 512, and all other blocks behind it in text order.
 use Rattle.std.specs.Prelude.{◌≡◌, ℕ, ◌+◌, ◌==◌, if◌then◌else◌, false, List, [], ◌∷◌, length, Option, Some, None, slice_index}
 use Rattle.console_service.specs.Cpu.{HasAt, code_begin, memory_end}
-use Rattle.code_image.specs.Block.{First, Gate, Block}
-use Rattle.code_image.specs.Image.{HasImage}
+use Rattle.console_service.specs.Block.{First, Gate, Block}
+use Rattle.console_service.specs.Image.{HasImage}
 use Rattle.pascal_semantics.specs.declared.form.Statement.{Statement}
 use Rattle.pascal_semantics.specs.Charge.{charge_of, program_charge, charges_of}
 use Rattle.pascal_semantics.specs.Program.{program_of}

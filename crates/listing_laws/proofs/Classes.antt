@@ -4,9 +4,9 @@ use Rattle.std.proofs.Common.{refl, ap, ◌∙◌, arith, inl, inr, eqb-true}
 use Rattle.std.specs.Option.{option_map}
 use Rattle.dice_base.specs.declared.token.TokenKind.{TokenKind}
 use Rattle.dice_base.specs.declared.token.TokenKind.TheVariants.{Word, Ident, Number, Str, Sign, Hole}
-use Rattle.program_tree.specs.Tokens.{Toks, class_of}
-use Rattle.program_tree.specs.Forms.{Form, row, opt, after_sep, list_of, operator, behind_op}
-use Rattle.tree_text.specs.Joined.{flat, behind_each, joined, optional}
+use Rattle.pascal_tree.specs.Tokens.{Toks, class_of}
+use Rattle.pascal_tree.specs.Forms.{Form, row, opt, after_sep, list_of, operator, behind_op}
+use Rattle.pascal_tree.specs.Joined.{flat, behind_each, joined, optional}
 
 pub word_token : (t : TokenKind) (k : ℕ) → class_of t ≡ 6 * k → t ≡ Word k
 word_token (Word j) k e = ap Word (omega (arith, e))

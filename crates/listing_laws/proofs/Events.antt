@@ -2,31 +2,30 @@
 use Rattle.std.specs.Prelude.{◌≡◌, ℕ, ◌+◌, List, [], ◌∷◌, ◌++◌, None, map}
 use Rattle.std.proofs.Common.{refl, sym, ap, ◌∙◌, append-nil}
 use Rattle.dice_base.specs.declared.token.TokenKind.TheVariants.{Ident}
-use Rattle.program_tree.specs.declared.expr.Expr.{Expr}
-use Rattle.program_tree.specs.declared.expr.Access.{Access}
-use Rattle.program_tree.specs.declared.expr.Arg.{Arg}
-use Rattle.program_tree.specs.declared.stmt.Stmt.{Stmt}
-use Rattle.program_tree.specs.declared.stmt.StmtKind.{StmtKind, StmtKind-F}
-use Rattle.program_tree.specs.declared.stmt.StmtKind.TheVariants as s
-use Rattle.program_tree.specs.declared.stmt.StmtKind.TheVariants.{rolls-Empty, rolls-Assign, rolls-Call, rolls-Compound}
-use Rattle.program_tree.specs.declared.stmt.StmtKind.TheFolds.{fold-roll-StmtKind, fold-roll-Stmt}
-use Rattle.program_tree.specs.declared.typing.TypeText.{TypeText-F}
-use Rattle.program_tree.specs.declared.typing.TypeText.TheVariants as typing
-use Rattle.program_tree.specs.declared.typing.TypeText.TheVariants.{rolls-Named}
-use Rattle.program_tree.specs.declared.typing.TypeText.TheFolds.{fold-roll-TypeText}
-use Rattle.program_tree.specs.declared.decl.Decl.{Decl}
-use Rattle.program_tree.specs.declared.decl.Block.{Block}
-use Rattle.program_tree.specs.declared.decl.Block.TheFolds.{fold-roll-Block}
-use Rattle.program_tree.specs.Tokens.{Toks}
-use Rattle.program_tree.specs.Statements.{no_name, make_stmt}
-use Rattle.program_tree.specs.Programs.{make_block, make_program}
-use Rattle.tree_text.specs.Joined.{flat, behind_each, joined}
-use Rattle.tree_text.specs.Symbols.{end_word, var_word, semicolon_sign, period_sign}
-use Rattle.tree_text.specs.Expressions.{expr_tokens, access_tokens, args_tokens}
-use Rattle.tree_text.specs.Declarations.{in_type, in_field, type_tokens, decl_tokens}
+use Rattle.pascal_tree.specs.declared.expr.Expr.{Expr}
+use Rattle.pascal_tree.specs.declared.expr.Access.{Access}
+use Rattle.pascal_tree.specs.declared.expr.Arg.{Arg}
+use Rattle.pascal_tree.specs.declared.stmt.Stmt.{Stmt}
+use Rattle.pascal_tree.specs.declared.stmt.StmtKind.{StmtKind, StmtKind-F}
+use Rattle.pascal_tree.specs.declared.stmt.StmtKind.TheVariants as s
+use Rattle.pascal_tree.specs.declared.stmt.StmtKind.TheVariants.{rolls-Empty, rolls-Assign, rolls-Call, rolls-Compound}
+use Rattle.pascal_tree.specs.declared.stmt.StmtKind.TheFolds.{fold-roll-StmtKind, fold-roll-Stmt}
+use Rattle.pascal_tree.specs.declared.typing.TypeText.{TypeText-F}
+use Rattle.pascal_tree.specs.declared.typing.TypeText.TheVariants as typing
+use Rattle.pascal_tree.specs.declared.typing.TypeText.TheVariants.{rolls-Named}
+use Rattle.pascal_tree.specs.declared.typing.TypeText.TheFolds.{fold-roll-TypeText}
+use Rattle.pascal_tree.specs.declared.decl.Decl.{Decl}
+use Rattle.pascal_tree.specs.declared.decl.Block.{Block}
+use Rattle.pascal_tree.specs.declared.decl.Block.TheFolds.{fold-roll-Block}
+use Rattle.pascal_tree.specs.Tokens.{Toks}
+use Rattle.pascal_tree.specs.Statements.{no_name, make_stmt}
+use Rattle.pascal_tree.specs.Programs.{make_block, make_program}
+use Rattle.pascal_tree.specs.Joined.{flat, behind_each, joined}
+use Rattle.dice_base.specs.Symbols.{end_word, var_word, semicolon_sign, period_sign, begin_word, becomes_sign, program_word}
+use Rattle.pascal_tree.specs.ExprTokens.{expr_tokens, access_tokens, args_tokens}
+use Rattle.pascal_tree.specs.DeclTokens.{in_type, in_field, type_tokens, decl_tokens}
 use Rattle.pascal_print.specs.declared.event.Event.{Event}
 use Rattle.pascal_print.specs.declared.event.Event.TheVariants.{Item, Part, Back, Token}
-use Rattle.pascal_print.specs.Symbols.{begin_word, becomes_sign, program_word}
 use Rattle.pascal_print.specs.Events.{Laid, tokens_of, said, child, more, sequence, ended, in_kind, in_arm, in_stmt, in_block, in_routine, part, decl_events, stmt_events, kind_events, block_events, routine_events, program_tokens}
 
 pub tokens-append : (es fs : List Event) → tokens_of (es ++ fs) ≡ tokens_of es ++ tokens_of fs

@@ -1,10 +1,10 @@
 -- Names that are left out.
 use Rattle.std.specs.Prelude.{◌≡◌, Some}
 use Rattle.std.proofs.Common.{ap, sym, ◌∙◌}
-use Rattle.program_tree.specs.declared.stmt.Stmt.{roll-Stmt}
-use Rattle.program_tree.specs.declared.stmt.StmtKind.{StmtKind, StmtKind-F}
-use Rattle.program_tree.specs.declared.stmt.StmtKind.TheVariants.{Empty, rolls-Empty}
-use Rattle.program_tree.specs.Statements.{no_name}
+use Rattle.pascal_tree.specs.declared.stmt.Stmt.{roll-Stmt}
+use Rattle.pascal_tree.specs.declared.stmt.StmtKind.{StmtKind, StmtKind-F}
+use Rattle.pascal_tree.specs.declared.stmt.StmtKind.TheVariants.{Empty, rolls-Empty}
+use Rattle.pascal_tree.specs.Statements.{no_name}
 use Rattle.listing_laws.specs.Unnamed.{unnamed_stmt, unnamed_kind}
 use Rattle.listing_laws.proofs.Unnamed.{kind-without, stmt-without}
 

@@ -1,15 +1,15 @@
 -- The tokens that an expression derives are its own.
 use Rattle.std.specs.Prelude.{◌≡◌, ℕ, zero, suc, Bool}
 use Rattle.std.proofs.Common.{refl, inl, inr, append-nil, append_assoc}
-use Rattle.program_tree.specs.declared.expr.Prefix.{Prefix}
-use Rattle.program_tree.specs.declared.expr.Expr.{Expr}
-use Rattle.program_tree.specs.declared.expr.Factor.{Factor}
-use Rattle.program_tree.specs.Tokens.{Toks}
-use Rattle.program_tree.specs.Symbols.{comma_sign}
-use Rattle.program_tree.specs.Forms.{Form, behind_op}
-use Rattle.program_tree.specs.Expressions.{mul_ops, add_ops, rel_ops, mul_op, add_op, rel_op, make_mul, make_add, make_rel, part_form, access_form, factor_form, term_form, sign_form, sum_form, expr_form, expr_at, factor_at}
-use Rattle.tree_text.specs.Symbols as symbol
-use Rattle.tree_text.specs.Expressions.{prefix_tokens, mul_token, add_token, rel_token, expr_tokens, relation_tokens, sum_tokens, adding_tokens, term_tokens, multiplying_tokens, factor_tokens, access_tokens, part_tokens}
+use Rattle.pascal_tree.specs.declared.expr.Prefix.{Prefix}
+use Rattle.pascal_tree.specs.declared.expr.Expr.{Expr}
+use Rattle.pascal_tree.specs.declared.expr.Factor.{Factor}
+use Rattle.pascal_tree.specs.Tokens.{Toks}
+use Rattle.pascal_tree.specs.Classes.{comma_class}
+use Rattle.pascal_tree.specs.Forms.{Form, behind_op}
+use Rattle.pascal_tree.specs.Expressions.{mul_ops, add_ops, rel_ops, mul_op, add_op, rel_op, make_mul, make_add, make_rel, part_form, access_form, factor_form, term_form, sign_form, sum_form, expr_form, expr_at, factor_at}
+use Rattle.dice_base.specs.Symbols as symbol
+use Rattle.pascal_tree.specs.ExprTokens.{prefix_tokens, mul_token, add_token, rel_token, expr_tokens, relation_tokens, sum_tokens, adding_tokens, term_tokens, multiplying_tokens, factor_tokens, access_tokens, part_tokens}
 use Rattle.listing_laws.proofs.Classes.{word_token, sign_token, AreClasses, Gives, row_gives, opt_gives, list_gives, behind_gives}
 use Rattle.listing_laws.proofs.Trees.{expr-made, rel-made, sum-made, add-made, term-made, mul-made, number-made, variable-made, paren-made, not-made, access-made, index-made, field-made, deref-made}
 
@@ -49,7 +49,7 @@ sign-tokens p w u (inr (inr (made, flag, rest))) = rw (made, rest) refl
 module _ (E : Form Expr) (inner : Derived E expr_tokens) where
   part-tokens : Gives (part_form E) part_tokens
   part-tokens a u (inl (t, v, e, is, (found, w, x, y, parts, list, (s, z, f, class, (made, flag, rest))))) =
-      rw (made, index-made found, e, sign_token t 11 is, parts, f, sign_token s 12 class, rest, list_gives comma_sign symbol.comma_sign E expr_tokens (λ t e. sign_token t 15 e) inner found x list) refl
+      rw (made, index-made found, e, sign_token t 11 is, parts, f, sign_token s 12 class, rest, list_gives comma_class symbol.comma_sign E expr_tokens (λ t e. sign_token t 15 e) inner found x list) refl
   part-tokens a u (inr (inl (t, v, e, is, (x, w, y, z, parts, name, (made, flag, rest))))) =
       rw (made, field-made x, e, sign_token t 14 is, parts, name, rest) refl
   part-tokens a u (inr (inr (inl (t, v, e, is, (made, flag, rest))))) = rw (made, deref-made, e, sign_token t 19 is, rest) refl

@@ -5,7 +5,7 @@ use Rattle.dice_base.specs.declared.byte.ByteClass.{ByteClass}
 use Rattle.dice_base.specs.declared.byte.ByteClass.TheVariants.{Letter, Digit, Separator, Mark}
 use Rattle.dice_base.specs.declared.token.TokenKind.{TokenKind}
 use Rattle.dice_base.specs.declared.token.TokenKind.TheVariants.{Word, Ident, Number, Str, Sign, Hole}
-use Rattle.dice_base.specs.declared.token.TheConstants.{SIGNS}
+use Rattle.dice_base.specs.declared.symbols.TheConstants.{SIGNS}
 use Rattle.dice_base.specs.Lexemes.{class, is_letter, is_digit, word_byte, digit_byte, sign_of, Lexeme, word, number, sign, hole, opens_comment, MayFollow, Takes, blank, LexesTo, ends, skips, takes}
 use Rattle.pascal_scanner.proofs.Signs.{found_passes}
 use Rattle.pascal_scanner.proofs.Takes.{lexeme-some, no_comment}

@@ -3,12 +3,12 @@ use Rattle.std.proofs.Common.{◌≡◌, ℕ, zero, suc, ◌*◌, Bool, true, fa
 use Rattle.std.specs.declared.option.Option.{Option}
 use Rattle.std.specs.List.{AllByRecursion}
 use Rattle.dice_base.specs.declared.token.TokenKind.{TokenKind}
-use Rattle.program_tree.specs.Tokens.{Toks}
-use Rattle.program_tree.specs.declared.stmt.Stmt.{Stmt, out-Stmt, map-Stmt}
-use Rattle.program_tree.specs.declared.stmt.StmtKind.{StmtKind}
-use Rattle.program_tree.specs.declared.stmt.Arm.{Arm}
-use Rattle.program_tree.specs.declared.stmt.StmtKind.TheFolds.{fold_out-Stmt}
-use Rattle.program_tree.specs.declared.program.Program.{Program}
+use Rattle.pascal_tree.specs.Tokens.{Toks}
+use Rattle.pascal_tree.specs.declared.stmt.Stmt.{Stmt, out-Stmt, map-Stmt}
+use Rattle.pascal_tree.specs.declared.stmt.StmtKind.{StmtKind}
+use Rattle.pascal_tree.specs.declared.stmt.Arm.{Arm}
+use Rattle.pascal_tree.specs.declared.stmt.StmtKind.TheFolds.{fold_out-Stmt}
+use Rattle.pascal_tree.specs.declared.program.Program.{Program}
 use Rattle.tree_text.specs.Spelling.{spelling_of}
 use Rattle.pascal_print.specs.declared.event.Event.{Event}
 use Rattle.pascal_print.specs.declared.event.Event.TheVariants.{Item, Part, Back, Token}

@@ -3,26 +3,26 @@ use Rattle.std.specs.Prelude.{◌≡◌, ℕ, zero, suc, ◌+◌, List, [], ◌�
 use Rattle.std.proofs.Common.{false, refl, sym, ap, subst, ◌∙◌, inl, inr}
 use Rattle.std.specs.List.{AllByRecursion}
 use Rattle.dice_base.specs.Lexemes.{Lexes}
-use Rattle.program_tree.specs.declared.expr.Expr.{Expr}
-use Rattle.program_tree.specs.declared.expr.Access.{Access}
-use Rattle.program_tree.specs.declared.expr.Arg.{Arg}
-use Rattle.program_tree.specs.declared.stmt.Stmt.{Stmt, roll-Stmt}
-use Rattle.program_tree.specs.declared.stmt.StmtKind.{StmtKind, StmtKind-F}
-use Rattle.program_tree.specs.declared.stmt.Arm.{Arm}
-use Rattle.program_tree.specs.declared.stmt.StmtKind.TheVariants as s
-use Rattle.program_tree.specs.declared.stmt.StmtKind.TheVariants.{rolls-Empty, rolls-Assign, rolls-Call, rolls-Compound}
-use Rattle.program_tree.specs.declared.stmt.StmtKind.TheFolds.{fold-roll-StmtKind, fold-roll-Stmt}
-use Rattle.program_tree.specs.declared.decl.Decl.{Decl}
-use Rattle.program_tree.specs.declared.decl.Block.{Block, roll-Block}
-use Rattle.program_tree.specs.declared.decl.Routine.{Routine}
-use Rattle.program_tree.specs.declared.decl.Block.TheFolds.{fold-roll-Block}
-use Rattle.program_tree.specs.declared.program.Program.{Program}
-use Rattle.program_tree.specs.Tokens.{Toks}
-use Rattle.program_tree.specs.Forms.{Form, row, after_sep, list_of}
-use Rattle.program_tree.specs.Expressions.{expr_at}
-use Rattle.program_tree.specs.Statements.{no_name, make_stmt, compound_form, kind_form, stmt_form, stmt_at}
-use Rattle.program_tree.specs.Programs.{make_block, make_program, var_form, vars_form, block_form, program_form, Derives}
-use Rattle.tree_names.specs.Naming.{Numbering, in_turn, in_kind, in_arm, in_stmt, in_block, in_routine, stmt_numbered, kind_numbered, decls_numbered, block_numbered, routine_numbered, numbered}
+use Rattle.pascal_tree.specs.declared.expr.Expr.{Expr}
+use Rattle.pascal_tree.specs.declared.expr.Access.{Access}
+use Rattle.pascal_tree.specs.declared.expr.Arg.{Arg}
+use Rattle.pascal_tree.specs.declared.stmt.Stmt.{Stmt, roll-Stmt}
+use Rattle.pascal_tree.specs.declared.stmt.StmtKind.{StmtKind, StmtKind-F}
+use Rattle.pascal_tree.specs.declared.stmt.Arm.{Arm}
+use Rattle.pascal_tree.specs.declared.stmt.StmtKind.TheVariants as s
+use Rattle.pascal_tree.specs.declared.stmt.StmtKind.TheVariants.{rolls-Empty, rolls-Assign, rolls-Call, rolls-Compound}
+use Rattle.pascal_tree.specs.declared.stmt.StmtKind.TheFolds.{fold-roll-StmtKind, fold-roll-Stmt}
+use Rattle.pascal_tree.specs.declared.decl.Decl.{Decl}
+use Rattle.pascal_tree.specs.declared.decl.Block.{Block, roll-Block}
+use Rattle.pascal_tree.specs.declared.decl.Routine.{Routine}
+use Rattle.pascal_tree.specs.declared.decl.Block.TheFolds.{fold-roll-Block}
+use Rattle.pascal_tree.specs.declared.program.Program.{Program}
+use Rattle.pascal_tree.specs.Tokens.{Toks}
+use Rattle.pascal_tree.specs.Forms.{Form, row, after_sep, list_of}
+use Rattle.pascal_tree.specs.Expressions.{expr_at}
+use Rattle.pascal_tree.specs.Statements.{no_name, make_stmt, compound_form, kind_form, stmt_form, stmt_at}
+use Rattle.pascal_tree.specs.Programs.{make_block, make_program, var_form, vars_form, block_form, program_form, Derives}
+use Rattle.pascal_tree.specs.Naming.{Numbering, in_turn, in_kind, in_arm, in_stmt, in_block, in_routine, stmt_numbered, kind_numbered, decls_numbered, block_numbered, routine_numbered, numbered}
 use Rattle.tree_names.specs.Readings.{IsReadingOf}
 use Rattle.pascal_print.specs.Listing.{listing}
 use Rattle.listing_laws.specs.Unnamed.{unnamed_stmt, unnamed_kind, unnamed_decl, unnamed_block, unnamed}

@@ -3,20 +3,20 @@ use Rattle.std.specs.Prelude.{◌≡◌, ℕ, zero, suc, ◌+◌, List, [], ◌�
 use Rattle.std.proofs.Common.{refl, sym, inl, inr, append-nil, append_assoc}
 use Rattle.std.specs.Option.{option_map}
 use Rattle.dice_base.specs.declared.token.TokenKind.TheVariants.{Ident}
-use Rattle.program_tree.specs.declared.expr.Expr.{Expr}
-use Rattle.program_tree.specs.declared.expr.Arg.{Arg}
-use Rattle.program_tree.specs.declared.stmt.Stmt.{Stmt}
-use Rattle.program_tree.specs.declared.program.Program.{Program}
-use Rattle.program_tree.specs.Tokens.{Toks}
-use Rattle.program_tree.specs.Symbols.{comma_sign, semicolon_sign}
-use Rattle.program_tree.specs.Forms.{Form, list_of, named}
-use Rattle.program_tree.specs.Expressions.{expr_at}
-use Rattle.program_tree.specs.Statements.{width_form, arg_form, args_form, compound_form, kind_form, stmt_form, stmt_at}
-use Rattle.program_tree.specs.Programs.{var_form, vars_form, block_form, program_form, Derives}
-use Rattle.tree_text.specs.Joined.{behind}
-use Rattle.tree_text.specs.Symbols as symbol
-use Rattle.tree_text.specs.Expressions.{expr_tokens, arg_tokens, args_tokens}
-use Rattle.tree_text.specs.Declarations.{ident_tokens, idents_tokens, decl_tokens}
+use Rattle.pascal_tree.specs.declared.expr.Expr.{Expr}
+use Rattle.pascal_tree.specs.declared.expr.Arg.{Arg}
+use Rattle.pascal_tree.specs.declared.stmt.Stmt.{Stmt}
+use Rattle.pascal_tree.specs.declared.program.Program.{Program}
+use Rattle.pascal_tree.specs.Tokens.{Toks}
+use Rattle.pascal_tree.specs.Classes.{comma_class, semicolon_class}
+use Rattle.pascal_tree.specs.Forms.{Form, list_of, named}
+use Rattle.pascal_tree.specs.Expressions.{expr_at}
+use Rattle.pascal_tree.specs.Statements.{width_form, arg_form, args_form, compound_form, kind_form, stmt_form, stmt_at}
+use Rattle.pascal_tree.specs.Programs.{var_form, vars_form, block_form, program_form, Derives}
+use Rattle.pascal_tree.specs.Joined.{behind}
+use Rattle.dice_base.specs.Symbols as symbol
+use Rattle.pascal_tree.specs.ExprTokens.{expr_tokens, arg_tokens, args_tokens}
+use Rattle.pascal_tree.specs.DeclTokens.{ident_tokens, idents_tokens, decl_tokens}
 use Rattle.pascal_print.specs.Events.{tokens_of, block_events, program_tokens}
 use Rattle.listing_laws.proofs.Classes.{word_token, sign_token, row_gives, list_gives}
 use Rattle.listing_laws.proofs.Trees.{arg-made}
@@ -35,10 +35,10 @@ module _ (A : Form Expr) (inner : Derived A expr_tokens) where
       rw (made, arg-made x width, e, e2, rest, append-nil y2, inner x y ex, width-tokens width y2 wx) refl
 
   -- where there is one
-  args-in : (args : List Arg) (u : Toks) → list_of comma_sign (arg_form A) args tt u → symbol.open_sign ∷ (u ++ symbol.close_sign ∷ []) ≡ args_tokens args
+  args-in : (args : List Arg) (u : Toks) → list_of comma_class (arg_form A) args tt u → symbol.open_sign ∷ (u ++ symbol.close_sign ∷ []) ≡ args_tokens args
   unfolding args_tokens
   args-in [] u (x, w, y, z, e, ax, (more, made, r)) = absurd cc
-  args-in (x ∷ xs) u list = rw (list_gives comma_sign symbol.comma_sign (arg_form A) arg_tokens (λ t e. sign_token t 15 e) arg-tokens (x ∷ xs) u list) refl
+  args-in (x ∷ xs) u list = rw (list_gives comma_class symbol.comma_sign (arg_form A) arg_tokens (λ t e. sign_token t 15 e) arg-tokens (x ∷ xs) u list) refl
 
   args-tokens : Derived (args_form A) args_tokens
   unfolding args_tokens
@@ -51,7 +51,7 @@ module _ (A : Form Expr) (inner : Derived A expr_tokens) where
 module _ (S : Form Stmt) (inner : (level : ℕ) → Derived S (stmt_tokens level)) where
   pub compound-tokens : (level : ℕ) → Derived (compound_form S) (kind_tokens level)
   compound-tokens level k u (t, v, e, is, (xs, w, y, z, e2, list, (s, z2, e3, class, (made, flag, rest)))) =
-      rw (made, compound-made level xs, e, word_token t 2 is, e2, e3, word_token s 9 class, rest, list_gives semicolon_sign symbol.semicolon_sign S (stmt_tokens (level + 1)) (λ t e. sign_token t 16 e) (inner (level + 1)) xs y list) refl
+      rw (made, compound-made level xs, e, word_token t 2 is, e2, e3, word_token s 9 class, rest, list_gives semicolon_class symbol.semicolon_sign S (stmt_tokens (level + 1)) (λ t e. sign_token t 16 e) (inner (level + 1)) xs y list) refl
 
 module _ (E A : Form Expr) (S : Form Stmt) (here : Derived E expr_tokens) (further : Derived A expr_tokens) (inner : (level : ℕ) → Derived S (stmt_tokens level)) where
   kind-tokens : (level : ℕ) → Derived (kind_form E A S) (kind_tokens level)
@@ -78,7 +78,7 @@ named-tokens x u is = is
 var-tokens : Derived var_form ended_tokens
 unfolding decl_tokens idents_tokens
 var-tokens d u (xs, w, y, z, e, list, (t, v, e2, is, (x, w2, y2, z2, e3, name, (s, z3, e4, class, (made, flag, rest))))) =
-    rw (made, type-named x, e, e2, sign_token t 17 is, e3, name, e4, sign_token s 16 class, rest, list_gives comma_sign symbol.comma_sign named ident_tokens (λ t e. sign_token t 15 e) named-tokens xs y list)
+    rw (made, type-named x, e, e2, sign_token t 17 is, e3, name, e4, sign_token s 16 class, rest, list_gives comma_class symbol.comma_sign named ident_tokens (λ t e. sign_token t 15 e) named-tokens xs y list)
     (sym (append_assoc (idents_tokens xs) (symbol.colon_sign ∷ Ident x ∷ []) (symbol.semicolon_sign ∷ [])))
 
 vars-tokens : Derived vars_form vars_tokens

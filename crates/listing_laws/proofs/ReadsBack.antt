@@ -4,11 +4,11 @@ use Rattle.std.proofs.Common.{false, refl, sym, subst, ◌∙◌}
 use Rattle.std.specs.List.{AllByRecursion}
 use Rattle.dice_base.specs.declared.fault.NoMemory.{NoMemory}
 use Rattle.dice_base.specs.Lexemes.{Lexes}
-use Rattle.program_tree.specs.declared.stmt.Stmt.{Stmt}
-use Rattle.program_tree.specs.declared.program.Program.{Program}
-use Rattle.program_tree.specs.Tokens.{Toks}
-use Rattle.program_tree.specs.Statements.{stmt_at}
-use Rattle.program_tree.specs.Programs.{Derives}
+use Rattle.pascal_tree.specs.declared.stmt.Stmt.{Stmt}
+use Rattle.pascal_tree.specs.declared.program.Program.{Program}
+use Rattle.pascal_tree.specs.Tokens.{Toks}
+use Rattle.pascal_tree.specs.Statements.{stmt_at}
+use Rattle.pascal_tree.specs.Programs.{Derives}
 use Rattle.grammar_laws.specs.StmtReading.{stmt_in}
 use Rattle.grammar_laws.proofs.StmtLaws.{stmt_rules}
 use Rattle.grammar_laws.proofs.Rules.{ok, ok_value}

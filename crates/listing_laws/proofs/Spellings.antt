@@ -13,7 +13,7 @@ use Rattle.dice_base.specs.declared.byte.ByteClass.{ByteClass}
 use Rattle.dice_base.specs.declared.byte.ByteClass.TheVariants.{Letter, Digit, Separator, Mark}
 use Rattle.dice_base.specs.declared.token.TokenKind.{TokenKind}
 use Rattle.dice_base.specs.declared.token.TokenKind.TheVariants.{Number, Sign}
-use Rattle.dice_base.specs.declared.token.TheConstants.{WORD_SYMBOLS, SIGNS}
+use Rattle.dice_base.specs.declared.symbols.TheConstants.{WORD_SYMBOLS, SIGNS}
 use Rattle.dice_base.specs.Lexemes.{class, is_digit, word_byte, digit_byte, value_from, value_of, word_symbol, lower, named_by, named, sign_of, Lexeme, word, number, sign, hole, LexesTo, ends, skips, takes}
 use Rattle.tree_text.specs.Spelling as spelling
 use Rattle.tree_text.specs.Spelling.{spelling_of}

@@ -3,30 +3,30 @@ use Rattle.std.specs.Prelude.{◌≡◌, ℕ, List, [], ◌∷◌, ◌++◌, Opt
 use Rattle.std.proofs.Common.{sym, ap, ◌∙◌}
 use Rattle.std.specs.Option.{option_map}
 use Rattle.dice_base.specs.declared.token.TokenKind.TheVariants as token
-use Rattle.program_tree.specs.declared.expr.Prefix.{Prefix}
-use Rattle.program_tree.specs.declared.expr.AddOp.{AddOp}
-use Rattle.program_tree.specs.declared.expr.MulOp.{MulOp}
-use Rattle.program_tree.specs.declared.expr.RelOp.{RelOp}
-use Rattle.program_tree.specs.declared.expr.Expr.{Expr}
-use Rattle.program_tree.specs.declared.expr.RelPart.{RelPart}
-use Rattle.program_tree.specs.declared.expr.SumExpr.{SumExpr}
-use Rattle.program_tree.specs.declared.expr.AddPart.{AddPart}
-use Rattle.program_tree.specs.declared.expr.Term.{Term}
-use Rattle.program_tree.specs.declared.expr.MulPart.{MulPart}
-use Rattle.program_tree.specs.declared.expr.Factor.{Factor, Factor-F}
-use Rattle.program_tree.specs.declared.expr.Factor.TheVariants as f
-use Rattle.program_tree.specs.declared.expr.Factor.TheVariants.{rolls-Number, rolls-Access, rolls-Paren, rolls-Not}
-use Rattle.program_tree.specs.declared.expr.Access.{Access}
-use Rattle.program_tree.specs.declared.expr.AccessPart.{AccessPart, AccessPart-F}
-use Rattle.program_tree.specs.declared.expr.AccessPart.TheVariants as part
-use Rattle.program_tree.specs.declared.expr.AccessPart.TheVariants.{rolls-Index, rolls-Field, rolls-Dereference}
-use Rattle.program_tree.specs.declared.expr.AccessPart.TheFolds.{fold-roll-AccessPart, fold-roll-Factor, fold-roll-Access, fold-roll-AddPart, fold-roll-Arg, fold-roll-Expr, fold-roll-MulPart, fold-roll-RelPart, fold-roll-SumExpr, fold-roll-Term}
-use Rattle.program_tree.specs.Tokens.{Toks}
-use Rattle.program_tree.specs.Expressions.{make_mul, make_add, make_rel, make_access, make_term, make_sum, make_expr}
-use Rattle.program_tree.specs.Statements.{make_arg}
-use Rattle.tree_text.specs.Joined.{flat, optional, behind}
-use Rattle.tree_text.specs.Symbols as symbol
-use Rattle.tree_text.specs.Expressions.{in_part, in_factor, in_access, in_adding, in_arg, in_expr, in_multiplying, in_relation, in_member, in_sum, in_term, prefix_tokens, mul_token, add_token, rel_token, listed, expr_tokens, relation_tokens, sum_tokens, adding_tokens, term_tokens, multiplying_tokens, factor_tokens, arg_tokens, access_tokens, part_tokens}
+use Rattle.pascal_tree.specs.declared.expr.Prefix.{Prefix}
+use Rattle.pascal_tree.specs.declared.expr.AddOp.{AddOp}
+use Rattle.pascal_tree.specs.declared.expr.MulOp.{MulOp}
+use Rattle.pascal_tree.specs.declared.expr.RelOp.{RelOp}
+use Rattle.pascal_tree.specs.declared.expr.Expr.{Expr}
+use Rattle.pascal_tree.specs.declared.expr.RelPart.{RelPart}
+use Rattle.pascal_tree.specs.declared.expr.SumExpr.{SumExpr}
+use Rattle.pascal_tree.specs.declared.expr.AddPart.{AddPart}
+use Rattle.pascal_tree.specs.declared.expr.Term.{Term}
+use Rattle.pascal_tree.specs.declared.expr.MulPart.{MulPart}
+use Rattle.pascal_tree.specs.declared.expr.Factor.{Factor, Factor-F}
+use Rattle.pascal_tree.specs.declared.expr.Factor.TheVariants as f
+use Rattle.pascal_tree.specs.declared.expr.Factor.TheVariants.{rolls-Number, rolls-Access, rolls-Paren, rolls-Not}
+use Rattle.pascal_tree.specs.declared.expr.Access.{Access}
+use Rattle.pascal_tree.specs.declared.expr.AccessPart.{AccessPart, AccessPart-F}
+use Rattle.pascal_tree.specs.declared.expr.AccessPart.TheVariants as part
+use Rattle.pascal_tree.specs.declared.expr.AccessPart.TheVariants.{rolls-Index, rolls-Field, rolls-Dereference}
+use Rattle.pascal_tree.specs.declared.expr.AccessPart.TheFolds.{fold-roll-AccessPart, fold-roll-Factor, fold-roll-Access, fold-roll-AddPart, fold-roll-Arg, fold-roll-Expr, fold-roll-MulPart, fold-roll-RelPart, fold-roll-SumExpr, fold-roll-Term}
+use Rattle.pascal_tree.specs.Tokens.{Toks}
+use Rattle.pascal_tree.specs.Expressions.{make_mul, make_add, make_rel, make_access, make_term, make_sum, make_expr}
+use Rattle.pascal_tree.specs.Statements.{make_arg}
+use Rattle.pascal_tree.specs.Joined.{flat, optional, behind}
+use Rattle.dice_base.specs.Symbols as symbol
+use Rattle.pascal_tree.specs.ExprTokens.{in_part, in_factor, in_access, in_adding, in_arg, in_expr, in_multiplying, in_relation, in_member, in_sum, in_term, prefix_tokens, mul_token, add_token, rel_token, listed, expr_tokens, relation_tokens, sum_tokens, adding_tokens, term_tokens, multiplying_tokens, factor_tokens, arg_tokens, access_tokens, part_tokens}
 
 -- ---- expressions, terms and their parts
 

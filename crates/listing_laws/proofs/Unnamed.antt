@@ -4,25 +4,24 @@ use Rattle.std.proofs.Common.{refl, sym, ap, subst, ◌∙◌}
 use Rattle.std.specs.Option.{option_map}
 use Rattle.dice_base.specs.declared.token.TokenKind.{TokenKind}
 use Rattle.dice_base.specs.declared.token.TokenKind.TheVariants.{Ident, Number}
-use Rattle.program_tree.specs.declared.stmt.Stmt.{Stmt, Stmt-F, roll-Stmt, map-Stmt}
-use Rattle.program_tree.specs.declared.stmt.StmtKind.{StmtKind, StmtKind-F, roll-StmtKind, map-StmtKind}
-use Rattle.program_tree.specs.declared.stmt.Arm.{Arm, Arm-F, roll-Arm, map-Arm}
-use Rattle.program_tree.specs.declared.stmt.StmtKind.TheFolds.{fold-roll-StmtKind, fold-roll-Stmt, fold-roll-Arm, ind-Stmt}
+use Rattle.pascal_tree.specs.declared.stmt.Stmt.{Stmt, Stmt-F, roll-Stmt, map-Stmt}
+use Rattle.pascal_tree.specs.declared.stmt.StmtKind.{StmtKind, StmtKind-F, roll-StmtKind, map-StmtKind}
+use Rattle.pascal_tree.specs.declared.stmt.Arm.{Arm, Arm-F, roll-Arm, map-Arm}
+use Rattle.pascal_tree.specs.declared.stmt.StmtKind.TheFolds.{fold-roll-StmtKind, fold-roll-Stmt, fold-roll-Arm, ind-Stmt}
 use Rattle.dice_base.specs.declared.name.Name.{Name}
-use Rattle.program_tree.specs.declared.decl.Decl.{Decl}
-use Rattle.program_tree.specs.declared.decl.Heading.{Heading}
-use Rattle.program_tree.specs.declared.decl.Block.{Block, Block-F, roll-Block, map-Block}
-use Rattle.program_tree.specs.declared.decl.Routine.{Routine, Routine-F, roll-Routine, map-Routine}
-use Rattle.program_tree.specs.declared.decl.Block.TheFolds.{fold-roll-Block, fold-roll-Routine, ind-Block}
-use Rattle.program_tree.specs.declared.program.Program.{Program}
-use Rattle.program_tree.specs.Tokens.{Toks}
-use Rattle.program_tree.specs.Statements.{no_name}
-use Rattle.tree_text.specs.Symbols.{end_word, of_word, var_word, semicolon_sign, colon_sign, period_sign}
-use Rattle.tree_text.specs.Expressions.{expr_tokens, access_tokens, accesses_tokens, args_tokens}
-use Rattle.tree_text.specs.Declarations.{constants_tokens, heading_tokens}
+use Rattle.pascal_tree.specs.declared.decl.Decl.{Decl}
+use Rattle.pascal_tree.specs.declared.decl.Heading.{Heading}
+use Rattle.pascal_tree.specs.declared.decl.Block.{Block, Block-F, roll-Block, map-Block}
+use Rattle.pascal_tree.specs.declared.decl.Routine.{Routine, Routine-F, roll-Routine, map-Routine}
+use Rattle.pascal_tree.specs.declared.decl.Block.TheFolds.{fold-roll-Block, fold-roll-Routine, ind-Block}
+use Rattle.pascal_tree.specs.declared.program.Program.{Program}
+use Rattle.pascal_tree.specs.Tokens.{Toks}
+use Rattle.pascal_tree.specs.Statements.{no_name}
+use Rattle.dice_base.specs.Symbols.{end_word, of_word, var_word, semicolon_sign, colon_sign, period_sign, begin_word, case_word, const_word, do_word, else_word, goto_word, if_word, label_word, repeat_word, then_word, type_word, until_word, while_word, with_word, becomes_sign}
+use Rattle.pascal_tree.specs.ExprTokens.{expr_tokens, access_tokens, accesses_tokens, args_tokens}
+use Rattle.pascal_tree.specs.DeclTokens.{constants_tokens, heading_tokens}
 use Rattle.pascal_print.specs.declared.event.Event.{Event}
 use Rattle.pascal_print.specs.declared.event.Event.TheVariants.{Token}
-use Rattle.pascal_print.specs.Symbols.{begin_word, case_word, const_word, do_word, else_word, goto_word, if_word, label_word, repeat_word, then_word, type_word, until_word, while_word, with_word, becomes_sign}
 use Rattle.pascal_print.specs.Events as events
 use Rattle.pascal_print.specs.Events.{Laid, tokens_of, said, label_tokens, tested, range, child, more, sequence, ended, else_part, labels, declaration, part, decl_events, block_or_forward, stmt_events, kind_events, arm_events, block_events, routine_events, program_tokens}
 use Rattle.listing_laws.specs.Unnamed as without

@@ -1,11 +1,11 @@
 -- A text that is read back as the program that it was written from.
 use Rattle.std.specs.Prelude.{◌≡◌, ℕ, List}
 use Rattle.dice_base.specs.Lexemes.{Lexes}
-use Rattle.program_tree.specs.declared.stmt.Stmt.{Stmt}
-use Rattle.program_tree.specs.declared.program.Program.{Program}
-use Rattle.program_tree.specs.Tokens.{Toks}
-use Rattle.program_tree.specs.Statements.{stmt_at}
-use Rattle.program_tree.specs.Programs.{Derives}
+use Rattle.pascal_tree.specs.declared.stmt.Stmt.{Stmt}
+use Rattle.pascal_tree.specs.declared.program.Program.{Program}
+use Rattle.pascal_tree.specs.Tokens.{Toks}
+use Rattle.pascal_tree.specs.Statements.{stmt_at}
+use Rattle.pascal_tree.specs.Programs.{Derives}
 use Rattle.listing_laws.specs.Unnamed.{unnamed_stmt, unnamed}
 
 -- the text is these tokens, and what its tokens derive is this tree alone

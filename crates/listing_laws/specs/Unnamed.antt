@@ -1,14 +1,14 @@
 -- A program without the names of its items: the number 0 stands in the place of each.
 use Rattle.std.specs.Prelude.{map}
 use Rattle.std.specs.Option.{option_map}
-use Rattle.program_tree.specs.declared.stmt.Stmt.{Stmt, Stmt-F, roll-Stmt, fold-Stmt}
-use Rattle.program_tree.specs.declared.stmt.StmtKind.{StmtKind, roll-StmtKind, fold-StmtKind}
-use Rattle.program_tree.specs.declared.stmt.Arm.{Arm, roll-Arm, fold-Arm}
-use Rattle.program_tree.specs.declared.decl.Decl.{Decl}
-use Rattle.program_tree.specs.declared.decl.Block.{Block, Block-F, roll-Block, fold-Block}
-use Rattle.program_tree.specs.declared.decl.Routine.{Routine, Routine-F, roll-Routine, fold-Routine}
-use Rattle.program_tree.specs.declared.program.Program.{Program}
-use Rattle.program_tree.specs.Statements.{no_name}
+use Rattle.pascal_tree.specs.declared.stmt.Stmt.{Stmt, Stmt-F, roll-Stmt, fold-Stmt}
+use Rattle.pascal_tree.specs.declared.stmt.StmtKind.{StmtKind, roll-StmtKind, fold-StmtKind}
+use Rattle.pascal_tree.specs.declared.stmt.Arm.{Arm, roll-Arm, fold-Arm}
+use Rattle.pascal_tree.specs.declared.decl.Decl.{Decl}
+use Rattle.pascal_tree.specs.declared.decl.Block.{Block, Block-F, roll-Block, fold-Block}
+use Rattle.pascal_tree.specs.declared.decl.Routine.{Routine, Routine-F, roll-Routine, fold-Routine}
+use Rattle.pascal_tree.specs.declared.program.Program.{Program}
+use Rattle.pascal_tree.specs.Statements.{no_name}
 
 -- ---- statements: one layer of the tree, whose parts stand there without names
 

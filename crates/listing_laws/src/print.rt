@@ -5,7 +5,7 @@ ghost use Rattle.listing_laws.specs.ReadsBack.{ReadsBack, StatementReadsBack};
 
 use dice_base::{NoMemory, Text};
 use pascal_print::{print_program, print_statement};
-use program_tree::{Program, Stmt};
+use pascal_tree::{Program, Stmt};
 use std::alloc::Global;
 
 /// The listing of a program without the names of its items.

@@ -1,7 +1,7 @@
 //! Listings of a small program and a statement.
 use super::*;
 use dice_base::{Name, Text};
-use program_tree::{Block, Program, Stmt, StmtKind};
+use pascal_tree::{Block, Program, Stmt, StmtKind};
 use sqlite_items::Items;
 use std::test::Fail;
 

@@ -1,8 +1,8 @@
 -- What stands behind a procedure's identifier.
 use Rattle.std.proofs.Common.{◌≡◌, ℕ, ◌≤◌, ◌<◌, List, [], ◌∷◌, Err, refl, length, arith}
-use Rattle.program_tree.specs.declared.expr.AccessPart.{AccessPart}
-use Rattle.program_tree.specs.declared.stmt.StmtKind.TheVariants as s
-use Rattle.program_tree.specs.Tokens.{Toks}
+use Rattle.pascal_tree.specs.declared.expr.AccessPart.{AccessPart}
+use Rattle.pascal_tree.specs.declared.stmt.StmtKind.TheVariants as s
+use Rattle.pascal_tree.specs.Tokens.{Toks}
 use Rattle.grammar_laws.specs.declared.stop.Stop.TheVariants.{At}
 use Rattle.grammar_laws.specs.Parsers.{◌>>=◌, pure}
 use Rattle.grammar_laws.specs.Reading.{Inner}

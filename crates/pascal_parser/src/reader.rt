@@ -1,8 +1,8 @@
 //! All the tokens, as one program or one statement.
 ghost use Rattle.std.specs.Prelude.{◌≡◌, map, IfOk};
-ghost use Rattle.program_tree.specs.declared.program.Program.{Program};
-ghost use Rattle.program_tree.specs.declared.stmt.Stmt.{Stmt};
-ghost use Rattle.program_tree.specs.Programs.{Derives};
+ghost use Rattle.pascal_tree.specs.declared.program.Program.{Program};
+ghost use Rattle.pascal_tree.specs.declared.stmt.Stmt.{Stmt};
+ghost use Rattle.pascal_tree.specs.Programs.{Derives};
 ghost use Rattle.grammar_laws.specs.ProgramReading as read;
 ghost use Rattle.grammar_laws.specs.StmtReading.{stmt_in};
 ghost use Rattle.pascal_parser.specs.Whole.{kinds, DerivesStmt, ReadsAll, IsUnlessMemory, fault_of};
@@ -13,7 +13,7 @@ use crate::stmts::stmt_within;
 use dice_base::Token;
 use expression_parser::Cursor;
 use grammar_laws::Stop;
-use program_tree::{Program, Stmt};
+use pascal_tree::{Program, Stmt};
 use std::alloc::Global;
 
 // The program is at level 1, its body at level 2, so the body's statements have 62 levels of the 64.

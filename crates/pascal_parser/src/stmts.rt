@@ -10,7 +10,7 @@ use dice_base::{Name, Text};
 use expression_parser::classes::{CLOSE, COMMA, IDENT, OPEN};
 use expression_parser::{Cursor, access_parts, expr, inner_expr};
 use grammar_laws::Stop;
-use program_tree::{Access, AccessPart, Arg, Expr, Stmt, StmtKind};
+use pascal_tree::{Access, AccessPart, Arg, Expr, Stmt, StmtKind};
 use sqlite_items::Items;
 use std::alloc::Global;
 

@@ -1,12 +1,12 @@
 -- Lists of files, and blocks part by part.
 use Rattle.std.proofs.Common.{◌≡◌, ℕ, ◌<◌, List, [], ◌∷◌, ◌++◌, map, length, refl, ap, append_assoc, arith}
-use Rattle.program_tree.specs.declared.decl.Block.{Block, out-Block}
-use Rattle.program_tree.specs.declared.decl.Block.TheFolds.{fold_out-Block}
-use Rattle.program_tree.specs.Tokens.{Toks}
-use Rattle.tree_text.specs.Symbols.{open_sign, close_sign, comma_sign}
-use Rattle.tree_text.specs.Expressions.{in_parens}
-use Rattle.tree_text.specs.Declarations.{ident_tokens, idents_tokens}
-use Rattle.program_tree.specs.declared.decl.Routine.{Routine}
+use Rattle.pascal_tree.specs.declared.decl.Block.{Block, out-Block}
+use Rattle.pascal_tree.specs.declared.decl.Block.TheFolds.{fold_out-Block}
+use Rattle.pascal_tree.specs.Tokens.{Toks}
+use Rattle.dice_base.specs.Symbols.{open_sign, close_sign, comma_sign}
+use Rattle.pascal_tree.specs.ExprTokens.{in_parens}
+use Rattle.pascal_tree.specs.DeclTokens.{ident_tokens, idents_tokens}
+use Rattle.pascal_tree.specs.declared.decl.Routine.{Routine}
 use Rattle.pascal_print.specs.declared.event.Event.{Event}
 use Rattle.pascal_print.specs.Events.{Laid, child, ended, parts, stmt_events, in_block, in_routine, block_events, routine_events}
 

@@ -5,22 +5,21 @@ use Rattle.std.specs.Prelude.{ℕ, ◌+◌, Bool, if◌then◌else◌, List, [],
 use Rattle.dice_base.specs.declared.name.Name.{Name}
 use Rattle.dice_base.specs.declared.token.TokenKind.{TokenKind}
 use Rattle.dice_base.specs.declared.token.TokenKind.TheVariants.{Ident, Number}
-use Rattle.program_tree.specs.declared.expr.Expr.{Expr}
-use Rattle.program_tree.specs.declared.stmt.Stmt.{Stmt, Stmt-F, fold-Stmt}
-use Rattle.program_tree.specs.declared.stmt.StmtKind.{StmtKind, StmtKind-F, fold-StmtKind}
-use Rattle.program_tree.specs.declared.stmt.Arm.{Arm, Arm-F, fold-Arm}
-use Rattle.program_tree.specs.declared.decl.Decl.{Decl}
-use Rattle.program_tree.specs.declared.decl.Block.{Block, Block-F, fold-Block}
-use Rattle.program_tree.specs.declared.decl.Routine.{Routine, Routine-F, fold-Routine}
-use Rattle.program_tree.specs.declared.program.Program.{Program}
-use Rattle.program_tree.specs.Tokens.{Toks}
-use Rattle.tree_text.specs.Joined.{flat}
-use Rattle.tree_text.specs.Symbols.{end_word, of_word, var_word, comma_sign, period_sign, semicolon_sign, colon_sign}
-use Rattle.tree_text.specs.Expressions.{expr_tokens, access_tokens, accesses_tokens, args_tokens, in_parens}
-use Rattle.tree_text.specs.Declarations.{ident_tokens, constants_tokens, decl_tokens, heading_tokens}
+use Rattle.pascal_tree.specs.declared.expr.Expr.{Expr}
+use Rattle.pascal_tree.specs.declared.stmt.Stmt.{Stmt, Stmt-F, fold-Stmt}
+use Rattle.pascal_tree.specs.declared.stmt.StmtKind.{StmtKind, StmtKind-F, fold-StmtKind}
+use Rattle.pascal_tree.specs.declared.stmt.Arm.{Arm, Arm-F, fold-Arm}
+use Rattle.pascal_tree.specs.declared.decl.Decl.{Decl}
+use Rattle.pascal_tree.specs.declared.decl.Block.{Block, Block-F, fold-Block}
+use Rattle.pascal_tree.specs.declared.decl.Routine.{Routine, Routine-F, fold-Routine}
+use Rattle.pascal_tree.specs.declared.program.Program.{Program}
+use Rattle.pascal_tree.specs.Tokens.{Toks}
+use Rattle.pascal_tree.specs.Joined.{flat}
+use Rattle.dice_base.specs.Symbols.{end_word, of_word, var_word, comma_sign, period_sign, semicolon_sign, colon_sign, begin_word, case_word, const_word, do_word, downto_word, else_word, for_word, goto_word, if_word, label_word, program_word, repeat_word, then_word, to_word, type_word, until_word, while_word, with_word, becomes_sign}
+use Rattle.pascal_tree.specs.ExprTokens.{expr_tokens, access_tokens, accesses_tokens, args_tokens, in_parens}
+use Rattle.pascal_tree.specs.DeclTokens.{ident_tokens, constants_tokens, decl_tokens, heading_tokens}
 use Rattle.pascal_print.specs.declared.event.Event.{Event}
 use Rattle.pascal_print.specs.declared.event.Event.TheVariants.{Item, Part, Back, Token}
-use Rattle.pascal_print.specs.Symbols.{begin_word, case_word, const_word, do_word, downto_word, else_word, for_word, goto_word, if_word, label_word, program_word, repeat_word, then_word, to_word, type_word, until_word, while_word, with_word, becomes_sign}
 
 -- the tokens alone
 abbrev pub tokens_of : List Event → Toks

@@ -1,28 +1,25 @@
 //! Blocks, routines and programs as events.
 ghost use Rattle.std.specs.Prelude.{◌≡◌, ◌++◌, [], ◌∷◌, map, OnOk};
 ghost use Rattle.dice_base.specs.declared.token.TokenKind.TheVariants as token;
-ghost use Rattle.program_tree.specs.declared.decl.Block.{out-Block};
-ghost use Rattle.tree_text.specs.Symbols.{comma_sign, semicolon_sign};
-ghost use Rattle.tree_text.specs.Expressions.{in_parens};
-ghost use Rattle.tree_text.specs.Declarations.{ident_tokens, heading_tokens};
+ghost use Rattle.pascal_tree.specs.declared.decl.Block.{out-Block};
+ghost use Rattle.dice_base.specs.Symbols.{comma_sign, semicolon_sign};
+ghost use Rattle.pascal_tree.specs.ExprTokens.{in_parens};
+ghost use Rattle.pascal_tree.specs.DeclTokens.{ident_tokens, heading_tokens};
 ghost use Rattle.pascal_print.specs.Events as spec;
 ghost use Rattle.pascal_print.specs.Events.{said, child};
 
 use crate::event::Event;
 use crate::events::Events;
 use crate::statements::{deeper, push_stmt};
-use crate::symbols::{
-    CLOSE_SIGN, CONST, LABEL, OPEN_SIGN, PERIOD_SIGN, PROGRAM, SEMICOLON_SIGN, TYPE, VAR,
-};
-use dice_base::{Name, NoMemory, Text, TokenKind};
-use program_tree::{Block, Decl, Heading, Program, Routine};
+use dice_base::{Name, NoMemory, Text, TokenKind, signs, words};
+use pascal_tree::{Block, Decl, Heading, Program, Routine};
 use std::alloc::Global;
 use tree_text::{push_decl, push_heading, push_idents};
 
 fn push_semicolon(out: &mut Events) -> Result<(), NoMemory>
     ensures { OnOk result (out.new ≡ out.old ++ Event.Token semicolon_sign ∷ []) }
 {
-    out.push_token(TokenKind::Sign(SEMICOLON_SIGN))
+    out.push_token(TokenKind::Sign(signs::SEMICOLON))
 }
 
 // A declaration as a child of the item of this level.
@@ -86,7 +83,7 @@ fn push_labels(
         None => Ok(()),
         Some(decl) => {
             out.push(Event::Part(level))?;
-            out.push_token(TokenKind::Word(LABEL))?;
+            out.push_token(TokenKind::Word(words::LABEL))?;
             push_declaration(alloc, decl, level, out)?;
             push_semicolon(out)
         }
@@ -98,9 +95,9 @@ fn push_parts(alloc: Global, block: &Block, level: usize, out: &mut Events) -> R
     ensures { OnOk result (out.new ≡ out.old ++ spec.parts (out-Block block.now).labels (out-Block block.now).consts (out-Block block.now).types (out-Block block.now).vars level) }
 {
     push_labels(alloc, &block.labels, level, out)?;
-    push_part(alloc, CONST, block.consts.as_slice(), level, out)?;
-    push_part(alloc, TYPE, block.types.as_slice(), level, out)?;
-    push_part(alloc, VAR, block.vars.as_slice(), level, out)
+    push_part(alloc, words::CONST, block.consts.as_slice(), level, out)?;
+    push_part(alloc, words::TYPE, block.types.as_slice(), level, out)?;
+    push_part(alloc, words::VAR, block.vars.as_slice(), level, out)
 }
 
 fn push_body(alloc: Global, block: &Block, level: usize, out: &mut Events) -> Result<(), NoMemory>
@@ -116,7 +113,7 @@ fn push_routine_heading(alloc: Global, heading: &Heading, out: &mut Events) -> R
 {
     let mut tokens = Vec::new(alloc);
     push_heading(alloc, heading, &mut tokens)?;
-    tokens.push(TokenKind::Sign(SEMICOLON_SIGN))?;
+    tokens.push(TokenKind::Sign(signs::SEMICOLON))?;
     out.push_tokens(tokens)
 }
 
@@ -171,9 +168,9 @@ fn push_files(alloc: Global, files: &[Text], tokens: &mut Vec<TokenKind>) -> Res
     if files.is_empty() {
         return Ok(());
     }
-    tokens.push(TokenKind::Sign(OPEN_SIGN))?;
+    tokens.push(TokenKind::Sign(signs::OPEN))?;
     push_idents(alloc, files, tokens)?;
-    tokens.push(TokenKind::Sign(CLOSE_SIGN))?;
+    tokens.push(TokenKind::Sign(signs::CLOSE))?;
     Ok(())
 }
 
@@ -181,10 +178,10 @@ fn push_program_heading(alloc: Global, program: &Program, out: &mut Events) -> R
     ensures { OnOk result (out.new ≡ out.old ++ said (spec.heading program.now)) }
 {
     let mut tokens = Vec::new(alloc);
-    tokens.push(TokenKind::Word(PROGRAM))?;
+    tokens.push(TokenKind::Word(words::PROGRAM))?;
     tokens.push(TokenKind::Ident(program.ident.copy(alloc)?))?;
     push_files(alloc, program.files.as_slice(), &mut tokens)?;
-    tokens.push(TokenKind::Sign(SEMICOLON_SIGN))?;
+    tokens.push(TokenKind::Sign(signs::SEMICOLON))?;
     out.push_tokens(tokens)
 }
 
@@ -195,5 +192,5 @@ pub fn push_program(alloc: Global, program: &Program, out: &mut Events) -> Resul
     out.push(Event::Item(Name(1), 0))?;
     push_program_heading(alloc, program, out)?;
     push_block(alloc, &program.block, 0, out)?;
-    out.push_token(TokenKind::Sign(PERIOD_SIGN))
+    out.push_token(TokenKind::Sign(signs::PERIOD))
 }

@@ -6,8 +6,7 @@ ghost use Rattle.pascal_print.specs.Listing as spec;
 
 use crate::event::{Event, Line};
 use crate::events::Events;
-use crate::symbols::{PERIOD_SIGN, SEMICOLON_SIGN};
-use dice_base::{Name, NoMemory, Text, TokenKind, push_decimal};
+use dice_base::{Name, NoMemory, Text, TokenKind, push_decimal, signs};
 use sqlite_items::Items;
 use std::alloc::Global;
 use tree_text::push_spelling;
@@ -16,7 +15,7 @@ fn closes(token: &TokenKind) -> bool
     ensures { result ≡ spec.closes token.now }
 {
     match token {
-        TokenKind::Sign(k) => *k == PERIOD_SIGN || *k == SEMICOLON_SIGN,
+        TokenKind::Sign(k) => *k == signs::PERIOD || *k == signs::SEMICOLON,
         _ => false,
     }
 }

@@ -7,7 +7,6 @@ mod events;
 mod layout;
 mod print;
 mod statements;
-mod symbols;
 
 pub use event::{Event, Line};
 pub use print::{print_program, print_statement};

@@ -7,7 +7,7 @@ use crate::events::Events;
 use crate::layout::lay_out;
 use crate::statements::push_stmt;
 use dice_base::{NoMemory, Text};
-use program_tree::{Program, Stmt};
+use pascal_tree::{Program, Stmt};
 use std::alloc::Global;
 
 /// The listing of a program, with the names of its items or without. A line begins at each item, at each of `label`,

@@ -3,19 +3,14 @@ ghost use Rattle.std.specs.Prelude.{◌≡◌, ◌<◌, ◌+◌, ◌^◌, ◌++�
 ghost use Rattle.dice_base.specs.declared.token.TokenKind.TheVariants as token;
 ghost use Rattle.pascal_print.specs.Events as spec;
 ghost use Rattle.pascal_print.specs.Events.{said, child};
-ghost use Rattle.pascal_print.specs.Symbols.{becomes_sign, do_word, else_word, goto_word, if_word, then_word, until_word, with_word};
-ghost use Rattle.tree_text.specs.Symbols.{colon_sign};
-ghost use Rattle.tree_text.specs.Expressions.{expr_tokens, access_tokens, accesses_tokens, args_tokens};
-ghost use Rattle.tree_text.specs.Declarations.{constants_tokens};
+ghost use Rattle.dice_base.specs.Symbols.{becomes_sign, do_word, else_word, goto_word, if_word, then_word, until_word, with_word, colon_sign};
+ghost use Rattle.pascal_tree.specs.ExprTokens.{expr_tokens, access_tokens, accesses_tokens, args_tokens};
+ghost use Rattle.pascal_tree.specs.DeclTokens.{constants_tokens};
 
 use crate::event::Event;
 use crate::events::Events;
-use crate::symbols::{
-    BECOMES_SIGN, BEGIN, CASE, COLON_SIGN, DO, DOWNTO, ELSE, END, FOR, GOTO, IF, OF, REPEAT,
-    SEMICOLON_SIGN, THEN, TO, UNTIL, WHILE, WITH,
-};
-use dice_base::{NoMemory, Text, TokenKind};
-use program_tree::{Access, Arg, Arm, Constant, Expr, Stmt, StmtKind};
+use dice_base::{NoMemory, Text, TokenKind, signs, words};
+use pascal_tree::{Access, Arg, Arm, Constant, Expr, Stmt, StmtKind};
 use std::alloc::Global;
 use tree_text::{push_access, push_accesses, push_args, push_constants, push_expr};
 
@@ -34,7 +29,7 @@ fn push_label(label: Option<u16>, out: &mut Events) -> Result<(), NoMemory>
         None => Ok(()),
         Some(n) => {
             out.push_token(TokenKind::Number(n))?;
-            out.push_token(TokenKind::Sign(COLON_SIGN))
+            out.push_token(TokenKind::Sign(signs::COLON))
         }
     }
 }
@@ -60,7 +55,7 @@ fn push_until(alloc: Global, test: &Expr, out: &mut Events) -> Result<(), NoMemo
     ensures { OnOk result (out.new ≡ out.old ++ said (until_word ∷ expr_tokens test.now)) }
 {
     let mut tokens = Vec::new(alloc);
-    tokens.push(TokenKind::Word(UNTIL))?;
+    tokens.push(TokenKind::Word(words::UNTIL))?;
     push_expr(alloc, test, &mut tokens)?;
     out.push_tokens(tokens)
 }
@@ -75,7 +70,7 @@ fn push_assign(
 {
     let mut tokens = Vec::new(alloc);
     push_access(alloc, access, &mut tokens)?;
-    tokens.push(TokenKind::Sign(BECOMES_SIGN))?;
+    tokens.push(TokenKind::Sign(signs::BECOMES))?;
     push_expr(alloc, value, &mut tokens)?;
     out.push_tokens(tokens)
 }
@@ -92,7 +87,7 @@ fn push_call(alloc: Global, ident: &Text, args: &[Arg], out: &mut Events) -> Res
 fn push_goto(label: u16, out: &mut Events) -> Result<(), NoMemory>
     ensures { OnOk result (out.new ≡ out.old ++ said (goto_word ∷ token.Number label ∷ [])) }
 {
-    out.push_token(TokenKind::Word(GOTO))?;
+    out.push_token(TokenKind::Word(words::GOTO))?;
     out.push_token(TokenKind::Number(label))
 }
 
@@ -108,13 +103,13 @@ fn push_range(
     ensures { OnOk result (out.new ≡ out.old ++ said (spec.range ident.now first.now down last.now)) }
 {
     let mut tokens = Vec::new(alloc);
-    tokens.push(TokenKind::Word(FOR))?;
+    tokens.push(TokenKind::Word(words::FOR))?;
     tokens.push(TokenKind::Ident(ident.copy(alloc)?))?;
-    tokens.push(TokenKind::Sign(BECOMES_SIGN))?;
+    tokens.push(TokenKind::Sign(signs::BECOMES))?;
     push_expr(alloc, first, &mut tokens)?;
-    tokens.push(TokenKind::Word(if down { DOWNTO } else { TO }))?;
+    tokens.push(TokenKind::Word(if down { words::DOWNTO } else { words::TO }))?;
     push_expr(alloc, last, &mut tokens)?;
-    tokens.push(TokenKind::Word(DO))?;
+    tokens.push(TokenKind::Word(words::DO))?;
     out.push_tokens(tokens)
 }
 
@@ -122,9 +117,9 @@ fn push_records(alloc: Global, records: &[Access], out: &mut Events) -> Result<(
     ensures { OnOk result (out.new ≡ out.old ++ said (with_word ∷ accesses_tokens records.now ++ do_word ∷ [])) }
 {
     let mut tokens = Vec::new(alloc);
-    tokens.push(TokenKind::Word(WITH))?;
+    tokens.push(TokenKind::Word(words::WITH))?;
     push_accesses(alloc, records, &mut tokens)?;
-    tokens.push(TokenKind::Word(DO))?;
+    tokens.push(TokenKind::Word(words::DO))?;
     out.push_tokens(tokens)
 }
 
@@ -133,7 +128,7 @@ fn push_selectors(alloc: Global, constants: &[Constant], out: &mut Events) -> Re
 {
     let mut tokens = Vec::new(alloc);
     push_constants(alloc, constants, &mut tokens)?;
-    tokens.push(TokenKind::Sign(COLON_SIGN))?;
+    tokens.push(TokenKind::Sign(signs::COLON))?;
     out.push_tokens(tokens)
 }
 
@@ -160,7 +155,7 @@ fn push_sequence(
         [first, rest @ ..] => {
             push_child(alloc, first, level, out)?;
             for stmt in rest {
-                out.push_token(TokenKind::Sign(SEMICOLON_SIGN))?;
+                out.push_token(TokenKind::Sign(signs::SEMICOLON))?;
                 push_child(alloc, stmt, level, out)?;
             }
             Ok(())
@@ -186,7 +181,7 @@ fn push_arms(alloc: Global, arms: &[Arm], level: usize, out: &mut Events) -> Res
         [first, rest @ ..] => {
             push_arm(alloc, first, level, out)?;
             for arm in rest {
-                out.push_token(TokenKind::Sign(SEMICOLON_SIGN))?;
+                out.push_token(TokenKind::Sign(signs::SEMICOLON))?;
                 push_arm(alloc, arm, level, out)?;
             }
             Ok(())
@@ -204,9 +199,9 @@ fn push_compound(
 ) -> Result<(), NoMemory>
     ensures { OnOk result (out.new ≡ out.old ++ spec.kind_events (StmtKind.Compound stmts.now) level) }
 {
-    out.push_token(TokenKind::Word(BEGIN))?;
+    out.push_token(TokenKind::Word(words::BEGIN))?;
     push_sequence(alloc, stmts, level, out)?;
-    out.push_token(TokenKind::Word(END))
+    out.push_token(TokenKind::Word(words::END))
 }
 
 #[cycle(push_stmt)]
@@ -219,7 +214,7 @@ fn push_then(
 ) -> Result<(), NoMemory>
     ensures { OnOk result (out.new ≡ out.old ++ (spec.tested if_word test.now then_word ++ child (spec.stmt_events yes.now) level)) }
 {
-    push_tested(alloc, IF, test, THEN, out)?;
+    push_tested(alloc, words::IF, test, words::THEN, out)?;
     push_child(alloc, yes, level, out)
 }
 
@@ -227,7 +222,7 @@ fn push_then(
 fn push_else(alloc: Global, no: &Stmt, level: usize, out: &mut Events) -> Result<(), NoMemory>
     ensures { OnOk result (out.new ≡ out.old ++ Event.Token else_word ∷ child (spec.stmt_events no.now) level) }
 {
-    out.push_token(TokenKind::Word(ELSE))?;
+    out.push_token(TokenKind::Word(words::ELSE))?;
     push_child(alloc, no, level, out)
 }
 
@@ -242,9 +237,9 @@ fn push_case(
 ) -> Result<(), NoMemory>
     ensures { OnOk result (out.new ≡ out.old ++ spec.kind_events (StmtKind.Case selector.now arms.now) level) }
 {
-    push_tested(alloc, CASE, selector, OF, out)?;
+    push_tested(alloc, words::CASE, selector, words::OF, out)?;
     push_arms(alloc, arms, level, out)?;
-    out.push_token(TokenKind::Word(END))
+    out.push_token(TokenKind::Word(words::END))
 }
 
 #[cycle(push_stmt)]
@@ -258,7 +253,7 @@ fn push_while(
 ) -> Result<(), NoMemory>
     ensures { OnOk result (out.new ≡ out.old ++ spec.kind_events (StmtKind.While test.now body.now) level) }
 {
-    push_tested(alloc, WHILE, test, DO, out)?;
+    push_tested(alloc, words::WHILE, test, words::DO, out)?;
     push_child(alloc, body, level, out)
 }
 
@@ -273,7 +268,7 @@ fn push_repeat(
 ) -> Result<(), NoMemory>
     ensures { OnOk result (out.new ≡ out.old ++ spec.kind_events (StmtKind.Repeat stmts.now test.now) level) }
 {
-    out.push_token(TokenKind::Word(REPEAT))?;
+    out.push_token(TokenKind::Word(words::REPEAT))?;
     push_sequence(alloc, stmts, level, out)?;
     push_until(alloc, test, out)
 }

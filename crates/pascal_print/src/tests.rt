@@ -1,7 +1,7 @@
 //! Listings of small programs.
 use super::*;
 use dice_base::{Name, NoMemory, Text};
-use program_tree::{
+use pascal_tree::{
     Access, AddOp, AddPart, Arg, Block, Decl, DeclKind, Expr, Factor, Heading, Prefix, Program,
     RelOp, RelPart, Routine, Stmt, StmtKind, SumExpr, Term, TypeText,
 };

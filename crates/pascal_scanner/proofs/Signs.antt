@@ -6,7 +6,7 @@ use Rattle.std.specs.Str.{bytes_eq}
 use Rattle.std.specs.Cmp.Lexicographic.{same_text}
 use Rattle.dice_base.specs.declared.byte.ByteClass.{ByteClass}
 use Rattle.dice_base.specs.declared.byte.ByteClass.TheVariants.{Letter, Digit, Separator, Mark}
-use Rattle.dice_base.specs.declared.token.TheConstants.{SIGNS}
+use Rattle.dice_base.specs.declared.symbols.TheConstants.{SIGNS}
 use Rattle.dice_base.specs.Lexemes.{class, sign_of}
 
 abbrev pub some : ℕ → Option ℕ

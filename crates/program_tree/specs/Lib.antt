@@ -1,6 +1,4 @@
-pub mod Expressions
-pub mod Forms
-pub mod Programs
-pub mod Statements
-pub mod Symbols
-pub mod Tokens
+pub mod Entries
+pub mod Found
+pub mod Lookups
+pub mod Named

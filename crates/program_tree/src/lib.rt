@@ -1,20 +1,16 @@
-//! The tree of a Pascal program and its grammar (ISO 7185:1990, clause 6).
+//! Programs whose items have names, and the way from a name to its item.
 //!
-//! The grammar stands in `specs/`, one line for each alternative that is built: `Expressions`, `Statements`,
-//! `Programs`.
+//! `specs/Named` says what the names are, `specs/Paths` where items stand, `specs/Rows` what a program is as a list of
+//! its items, and `specs/Lookups` what the index says.
 #![tactic(auto)]
 
-mod decl;
-mod expr;
+mod index;
+mod item;
 mod program;
-mod stmt;
-mod typing;
 
-pub use decl::{Block, Decl, DeclKind, Heading, Routine, Section};
-pub use expr::{
-    Access, AccessPart, AddOp, AddPart, Arg, Expr, Factor, MulOp, MulPart, Prefix, RelOp, RelPart,
-    SetMember, SumExpr, Term,
-};
-pub use program::{Header, Program};
-pub use stmt::{Arm, Constant, Stmt, StmtKind};
-pub use typing::{FieldText, TypeText};
+pub use index::Entry;
+pub use item::Item;
+pub use program::Program;
+
+#[cfg(test)]
+mod tests;

@@ -7,12 +7,12 @@ use Rattle.std.proofs.lemmas.Map.Steps.{length-le_from_distinct_below}
 use Rattle.dice_base.specs.declared.fault.NoMemory.{NoMemory}
 use Rattle.pascal_semantics.specs.declared.form.Statement.{Statement}
 use Rattle.pascal_semantics.specs.Valid.{IsFree, AllDiffer}
-use Rattle.program_tree.specs.declared.stmt.Stmt.{Stmt}
-use Rattle.program_tree.specs.declared.decl.Block.{Block, out-Block}
-use Rattle.program_tree.specs.declared.decl.Block.TheFolds.{fold_out-Block}
-use Rattle.program_tree.specs.declared.program.Program.{Program as Tree}
-use Rattle.tree_names.specs.Names.{of_block, of_routine, label_names, decl_names, stmt_names, block_names, routine_names, program_names}
-use Rattle.named_program.specs.Named.{IsNamed, IsNameBelow}
+use Rattle.pascal_tree.specs.declared.stmt.Stmt.{Stmt}
+use Rattle.pascal_tree.specs.declared.decl.Block.{Block, out-Block}
+use Rattle.pascal_tree.specs.declared.decl.Block.TheFolds.{fold_out-Block}
+use Rattle.pascal_tree.specs.declared.program.Program.{Program as Tree}
+use Rattle.pascal_tree.specs.Names.{of_block, of_routine, label_names, decl_names, stmt_names, block_names, routine_names, program_names}
+use Rattle.program_tree.specs.Named.{IsNamed, IsNameBelow}
 use Rattle.simple_form.specs.declared.program.SimpleProgram.{SimpleProgram}
 use Rattle.simple_form.specs.Simple.{Texts, Leaves, resolved_over, declared_variables, resolved, statements_in}
 use Rattle.simple_form.proofs.Sublists.{Sublist, keep, sublist_all, sublist_distinct}

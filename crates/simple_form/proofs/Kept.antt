@@ -5,11 +5,11 @@ use Rattle.std.proofs.lemmas.List.{map-append}
 use Rattle.pascal_semantics.specs.declared.form.SimpleForm.{SimpleForm}
 use Rattle.pascal_semantics.specs.declared.form.SimpleForm.TheVariants as form
 use Rattle.pascal_semantics.specs.declared.form.Statement.{Statement}
-use Rattle.program_tree.specs.declared.stmt.Stmt.{Stmt, Stmt-F, roll-Stmt}
-use Rattle.program_tree.specs.declared.stmt.StmtKind.{StmtKind, StmtKind-F, roll-StmtKind}
-use Rattle.program_tree.specs.declared.stmt.Arm.{Arm, fold-Arm}
-use Rattle.program_tree.specs.declared.stmt.StmtKind.TheFolds.{map-StmtKind, map-Stmt, fold-roll-StmtKind, fold-roll-Stmt, ind-Stmt}
-use Rattle.tree_names.specs.Names.{of_kind, of_arm, of_stmt, stmt_names, kind_names, arm_names}
+use Rattle.pascal_tree.specs.declared.stmt.Stmt.{Stmt, Stmt-F, roll-Stmt}
+use Rattle.pascal_tree.specs.declared.stmt.StmtKind.{StmtKind, StmtKind-F, roll-StmtKind}
+use Rattle.pascal_tree.specs.declared.stmt.Arm.{Arm, fold-Arm}
+use Rattle.pascal_tree.specs.declared.stmt.StmtKind.TheFolds.{map-StmtKind, map-Stmt, fold-roll-StmtKind, fold-roll-Stmt, ind-Stmt}
+use Rattle.pascal_tree.specs.Names.{of_kind, of_arm, of_stmt, stmt_names, kind_names, arm_names}
 use Rattle.simple_form.specs.Simple.{Texts, Leaves, leaf, both, in_turn, in_kind, in_arm, in_stmt, unlabelled, assignment_of, call_of, kind_of, stmt_of}
 use Rattle.simple_form.proofs.Sublists.{Sublist, none, keep, sublist_behind, sublist_append}
 

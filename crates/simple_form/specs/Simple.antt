@@ -2,31 +2,31 @@
 -- assignment, 6.9.4 writeln). What is not simple has no answer.
 use Rattle.std.specs.Prelude.{◌≡◌, ℕ, Bool, true, false, ◌&&◌, not, nat_le, if◌then◌else◌, List, [], ◌∷◌, ◌++◌, length, Option, Some, None, is_some, unwrap_or, codes, bytes_eq, map}
 use Rattle.dice_base.specs.Lexemes.{place_of}
-use Rattle.program_tree.specs.declared.expr.Prefix.{Prefix}
-use Rattle.program_tree.specs.declared.expr.Prefix.TheVariants.{Without}
-use Rattle.program_tree.specs.declared.expr.AddOp.{AddOp}
-use Rattle.program_tree.specs.declared.expr.AddOp.TheVariants as add
-use Rattle.program_tree.specs.declared.expr.Expr.{Expr, out-Expr}
-use Rattle.program_tree.specs.declared.expr.RelPart.{RelPart}
-use Rattle.program_tree.specs.declared.expr.SetMember.{SetMember}
-use Rattle.program_tree.specs.declared.expr.SumExpr.{SumExpr, out-SumExpr}
-use Rattle.program_tree.specs.declared.expr.AddPart.{AddPart, out-AddPart}
-use Rattle.program_tree.specs.declared.expr.Term.{Term, out-Term}
-use Rattle.program_tree.specs.declared.expr.MulPart.{MulPart}
-use Rattle.program_tree.specs.declared.expr.Factor.{Factor, Factor-F, out-Factor}
-use Rattle.program_tree.specs.declared.expr.Access.{Access, out-Access}
-use Rattle.program_tree.specs.declared.expr.AccessPart.{AccessPart}
-use Rattle.program_tree.specs.declared.expr.Arg.{Arg, out-Arg}
-use Rattle.program_tree.specs.declared.stmt.Stmt.{Stmt, Stmt-F, fold-Stmt}
-use Rattle.program_tree.specs.declared.stmt.StmtKind.{StmtKind, StmtKind-F, fold-StmtKind}
-use Rattle.program_tree.specs.declared.stmt.Arm.{Arm-F}
-use Rattle.program_tree.specs.declared.typing.TypeText.{TypeText, TypeText-F, out-TypeText}
-use Rattle.program_tree.specs.declared.typing.FieldText.{FieldText}
-use Rattle.program_tree.specs.declared.decl.Decl.{Decl}
-use Rattle.program_tree.specs.declared.decl.DeclKind.{DeclKind}
-use Rattle.program_tree.specs.declared.decl.DeclKind.TheVariants.{VarDecl}
-use Rattle.program_tree.specs.declared.decl.Block.{Block, out-Block}
-use Rattle.program_tree.specs.declared.program.Program.{Program as Tree}
+use Rattle.pascal_tree.specs.declared.expr.Prefix.{Prefix}
+use Rattle.pascal_tree.specs.declared.expr.Prefix.TheVariants.{Without}
+use Rattle.pascal_tree.specs.declared.expr.AddOp.{AddOp}
+use Rattle.pascal_tree.specs.declared.expr.AddOp.TheVariants as add
+use Rattle.pascal_tree.specs.declared.expr.Expr.{Expr, out-Expr}
+use Rattle.pascal_tree.specs.declared.expr.RelPart.{RelPart}
+use Rattle.pascal_tree.specs.declared.expr.SetMember.{SetMember}
+use Rattle.pascal_tree.specs.declared.expr.SumExpr.{SumExpr, out-SumExpr}
+use Rattle.pascal_tree.specs.declared.expr.AddPart.{AddPart, out-AddPart}
+use Rattle.pascal_tree.specs.declared.expr.Term.{Term, out-Term}
+use Rattle.pascal_tree.specs.declared.expr.MulPart.{MulPart}
+use Rattle.pascal_tree.specs.declared.expr.Factor.{Factor, Factor-F, out-Factor}
+use Rattle.pascal_tree.specs.declared.expr.Access.{Access, out-Access}
+use Rattle.pascal_tree.specs.declared.expr.AccessPart.{AccessPart}
+use Rattle.pascal_tree.specs.declared.expr.Arg.{Arg, out-Arg}
+use Rattle.pascal_tree.specs.declared.stmt.Stmt.{Stmt, Stmt-F, fold-Stmt}
+use Rattle.pascal_tree.specs.declared.stmt.StmtKind.{StmtKind, StmtKind-F, fold-StmtKind}
+use Rattle.pascal_tree.specs.declared.stmt.Arm.{Arm-F}
+use Rattle.pascal_tree.specs.declared.typing.TypeText.{TypeText, TypeText-F, out-TypeText}
+use Rattle.pascal_tree.specs.declared.typing.FieldText.{FieldText}
+use Rattle.pascal_tree.specs.declared.decl.Decl.{Decl}
+use Rattle.pascal_tree.specs.declared.decl.DeclKind.{DeclKind}
+use Rattle.pascal_tree.specs.declared.decl.DeclKind.TheVariants.{VarDecl}
+use Rattle.pascal_tree.specs.declared.decl.Block.{Block, out-Block}
+use Rattle.pascal_tree.specs.declared.program.Program.{Program as Tree}
 use Rattle.pascal_semantics.specs.declared.form.Operand.{Operand}
 use Rattle.pascal_semantics.specs.declared.form.Operand.TheVariants.{Global, Number}
 use Rattle.pascal_semantics.specs.declared.form.Sum.{Sum}

@@ -6,7 +6,7 @@ ghost use Rattle.pascal_semantics.specs.Valid.{IsOperand, IsSum};
 
 use dice_base::Text;
 use pascal_semantics::{Operand, Sum};
-use program_tree::{Access, AddOp, Expr, Factor, Prefix, SumExpr, Term};
+use pascal_tree::{Access, AddOp, Expr, Factor, Prefix, SumExpr, Term};
 
 const MAX_INTEGER: u16 = 32_767;
 

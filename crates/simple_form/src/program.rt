@@ -2,16 +2,16 @@
 ghost use Rattle.std.specs.Prelude.{◌≡◌, ◌≤◌, true, length, IfOk, IfSome, option_copied};
 ghost use Rattle.std.specs.List.{AllByRecursion};
 ghost use Rattle.simple_form.specs.Simple as spec;
-ghost use Rattle.program_tree.specs.declared.typing.TypeText.{out-TypeText};
+ghost use Rattle.pascal_tree.specs.declared.typing.TypeText.{out-TypeText};
 ghost use Rattle.simple_form.specs.Simple.{stmt_of, resolved, statements_in};
 ghost use Rattle.pascal_semantics.specs.Valid.{IsForm, IsFree, AllDiffer};
 
 use crate::operands::number_of;
 use crate::statements::push_stmt;
 use dice_base::{NoMemory, Text};
-use named_program::Program;
 use pascal_semantics::Statement;
-use program_tree::{Block, Decl, DeclKind, Program as Tree, Stmt, TypeText};
+use pascal_tree::{Block, Decl, DeclKind, Program as Tree, Stmt, TypeText};
+use program_tree::Program;
 use std::alloc::Global;
 
 const MAX_VARIABLES: usize = 64;

@@ -8,7 +8,7 @@ ghost use Rattle.pascal_semantics.specs.Valid.{IsForm, IsWidth};
 use crate::operands::{sum, variable};
 use dice_base::{Name, NoMemory, Text};
 use pascal_semantics::{Operand, SimpleForm, Statement, Sum};
-use program_tree::{Access, Arg, Expr, Stmt, StmtKind};
+use pascal_tree::{Access, Arg, Expr, Stmt, StmtKind};
 
 const MAX_WIDTH: u16 = 255;
 

@@ -2,15 +2,16 @@
 use super::*;
 use crate::statements::push_stmt;
 use dice_base::{Name, NoMemory, Text};
-use named_program::{Program, name_program};
 use pascal_semantics::{Operand, SimpleForm, Statement, Sum};
-use program_tree::{
+use pascal_tree::{
     Access, AddOp, AddPart, Arg, Block, Decl, DeclKind, Expr, Factor, Prefix, Program as Tree,
     Stmt, StmtKind, SumExpr, Term, TypeText,
 };
+use program_tree::Program;
 use sqlite_items::Items;
 use std::alloc::Global;
 use std::test::Fail;
+use tree_names::number_program;
 
 // `program p; var FIRST, SECOND: SHAPE; begin TARGET := a OP NUMBER; ; begin CALL(b : WIDTH) end end.` The names of its
 // statements do not rise in the order of the text.
@@ -137,7 +138,7 @@ fn program(alloc: Global, case: Case) -> Result<Program, NoMemory> {
         },
         next: 0,
     };
-    name_program(alloc, &tree)
+    Program::from_numbered(alloc, number_program(alloc, &tree)?)
 }
 
 fn is_simple(alloc: Global, case: Case) -> Result<bool, NoMemory> {

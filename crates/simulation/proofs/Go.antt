@@ -12,13 +12,13 @@ use Rattle.target_monitor.specs.declared.gates.GoEnd.TheVariants as end
 use Rattle.target_monitor.specs.declared.gates.Went.{Went}
 use Rattle.target_monitor.specs.Go.{instruction_limit, gate_passed, break_here, to_gate, arrived, reached, on_the_way, gone}
 use Rattle.target_monitor.proofs.Steps.{to_gate_here, to_gate_stops}
-use Rattle.code_image.specs.Block.{Gate, Block, laid, gate_word, place_of}
-use Rattle.code_image.specs.Semantics.{Begin, At, Hanging, Semantics}
-use Rattle.code_image.specs.Plain.{Program, Now, State, Goes, Ended, Failed, Stuck, IsLive, is_gate, rests, unless, sum_unless, ends_run, stretch, next, settle, drive, cost, spent, IsGoodState}
-use Rattle.code_image.specs.Image.{passed, start_at, HasImage, Before, Represents}
-use Rattle.code_image.proofs.Words.{has_index, laid_gate}
-use Rattle.code_image.proofs.Stretch.{image_still, length_laid}
-use Rattle.code_image.proofs.Settle.{settle_runs, gate_runs}
+use Rattle.console_service.specs.Block.{Gate, Block, laid, gate_word, place_of}
+use Rattle.console_service.specs.Semantics.{Begin, At, Hanging, Semantics}
+use Rattle.console_service.specs.Plain.{Program, Now, State, Goes, Ended, Failed, Stuck, IsLive, is_gate, rests, unless, sum_unless, ends_run, stretch, next, settle, drive, cost, spent, IsGoodState}
+use Rattle.console_service.specs.Image.{passed, start_at, HasImage, Before, Represents}
+use Rattle.console_service.proofs.Words.{has_index, laid_gate}
+use Rattle.console_service.proofs.Stretch.{image_still, length_laid}
+use Rattle.console_service.proofs.Settle.{settle_runs, gate_runs}
 use Rattle.simulation.specs.Gates.{told, gates_passed, drive_from, gates_from}
 use Rattle.simulation.proofs.Way.{comes_to_gate}
 

@@ -6,9 +6,9 @@ use Rattle.console_service.specs.Cpu.{Cpu, state_of}
 use Rattle.target_monitor.specs.declared.gates.GoEnd.{GoEnd}
 use Rattle.target_monitor.specs.declared.gates.GoEnd.TheVariants as end
 use Rattle.target_monitor.specs.declared.gates.Went.{Went}
-use Rattle.code_image.specs.Semantics.{Semantics}
-use Rattle.code_image.specs.Plain.{Program, State, Goes, Ended, Failed, Stuck, unless, sum_unless, ends_run, next, settle, drive}
-use Rattle.code_image.specs.Image.{passed}
+use Rattle.console_service.specs.Semantics.{Semantics}
+use Rattle.console_service.specs.Plain.{Program, State, Goes, Ended, Failed, Stuck, unless, sum_unless, ends_run, next, settle, drive}
+use Rattle.console_service.specs.Image.{passed}
 
 -- how a run of so many gates ends that has passed this many
 abbrev pub run_end : {Path Data : Type 0} → ℕ → ℕ → State Path Data → GoEnd

@@ -11,11 +11,11 @@ use Rattle.dice_base.specs.declared.link.LinkWord.{LinkWord}
 use Rattle.console_service.specs.Cpu.{Cpu, HasAt, globals_begin, stack_begin, memory_end}
 use Rattle.console_service.proofs.Compose.{comes_on, comes_within, has_front}
 use Rattle.console_service.proofs.Jumps.{trap_stops, trap_no_gate}
-use Rattle.code_image.specs.declared.block.BlockCode.{BlockCode}
-use Rattle.code_image.specs.Block.{First, Gate, Step, End, Leave, Block, laid, linked, set_at}
-use Rattle.code_image.specs.BlockOf.{block_of, link_of, first_of}
-use Rattle.code_image.specs.Semantics.{At, Back, Out, Hanging}
-use Rattle.code_image.specs.Image.{AreLinks, NoLink, Gives as Exits, Implements, HasLink}
+use Rattle.console_service.specs.declared.block.BlockCode.{BlockCode}
+use Rattle.console_service.specs.Block.{First, Gate, Step, End, Leave, Block, laid, linked, set_at}
+use Rattle.console_service.specs.BlockOf.{block_of, link_of, first_of}
+use Rattle.console_service.specs.Semantics.{At, Back, Out, Hanging}
+use Rattle.console_service.specs.Image.{AreLinks, NoLink, Gives as Exits, Implements, HasLink}
 use Rattle.pascal_semantics.specs.declared.form.Operand.{Operand}
 use Rattle.pascal_semantics.specs.declared.form.Operand.TheVariants.{Global, Number}
 use Rattle.pascal_semantics.specs.declared.form.Sum.{Sum}

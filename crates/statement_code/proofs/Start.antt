@@ -13,18 +13,18 @@ use Rattle.console_service.specs.Cpu.{Cpu, HasAt, Keeps, Comes, globals_begin, s
 use Rattle.console_service.proofs.Ops.{Op, PushNumber, PushZero, after}
 use Rattle.console_service.proofs.Compose.{one_step, comes_on, comes_within, no_step, has_front, has_back, has_still, line_runs, line_words, after_line, LineFits}
 use Rattle.console_service.proofs.Jumps.{end_stops, end_no_gate, frame_step}
-use Rattle.code_image.specs.declared.block.BlockCode.{BlockCode}
-use Rattle.code_image.specs.Block.{First, Gate, Step, End, Leave, Block}
-use Rattle.code_image.specs.BlockOf.{block_of, link_of, first_of}
-use Rattle.code_image.specs.Semantics.{At, Back, Out, Over, Hanging}
-use Rattle.code_image.specs.Image.{AreLinks, Gives as Exits, Implements, HasLink}
+use Rattle.console_service.specs.declared.block.BlockCode.{BlockCode}
+use Rattle.console_service.specs.Block.{First, Gate, Step, End, Leave, Block}
+use Rattle.console_service.specs.BlockOf.{block_of, link_of, first_of}
+use Rattle.console_service.specs.Semantics.{At, Back, Out, Over, Hanging}
+use Rattle.console_service.specs.Image.{AreLinks, Gives as Exits, Implements, HasLink}
 use Rattle.statement_code.specs.Code.{frame_words, program_words, program_block, filler}
 use Rattle.statement_code.specs.Gives.{HasGlobals}
 use Rattle.statement_code.specs.Forms.{ProgramBlock, NoCall, Store, HasFrame, FrameHolds, Holds, most, simple}
 use Rattle.statement_code.specs.Emitted.{IsMade, IsProgramCode, IsCodeOf}
 use Rattle.statement_code.proofs.Effects.{jump_end}
 use Rattle.statement_code.proofs.Blocks.{lay, made_lay, no_some, same_some, zeros_index}
-use Rattle.code_image.proofs.Stretch.{has_kept}
+use Rattle.console_service.proofs.Stretch.{has_kept}
 
 -- the three lines of the frame: before R5 is set, and behind that
 abbrev first_line : List Op

@@ -3,9 +3,9 @@ use Rattle.std.specs.Prelude.{◌≡◌, ◌≢◌, ℕ, ◌<◌, List, [], ◌�
 use Rattle.dice_base.specs.declared.link.LinkTo.{LinkTo}
 use Rattle.dice_base.specs.declared.link.LinkTo.TheVariants.{Next, Child}
 use Rattle.dice_base.specs.declared.link.LinkWord.{LinkWord}
-use Rattle.code_image.specs.declared.block.BlockCode.{BlockCode}
-use Rattle.code_image.specs.BlockOf.{block_of}
-use Rattle.code_image.specs.Image.{IsBlock, Implements}
+use Rattle.console_service.specs.declared.block.BlockCode.{BlockCode}
+use Rattle.console_service.specs.BlockOf.{block_of}
+use Rattle.console_service.specs.Image.{IsBlock, Implements}
 use Rattle.statement_code.specs.Forms.{BlockForm, block_charge, simple}
 
 -- the parts of a block of code without calls

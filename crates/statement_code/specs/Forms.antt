@@ -3,8 +3,8 @@ use Rattle.std.specs.Prelude.{◌≡◌, ℕ, ◌+◌, ◌*◌, ◌<◌, ◌≤�
 use Rattle.dice_base.specs.declared.link.LinkTo.TheVariants.{Next, Child}
 use Rattle.console_service.specs.Console.{output_room}
 use Rattle.console_service.specs.Cpu.{Cpu, memory_end}
-use Rattle.code_image.specs.Block.{First}
-use Rattle.code_image.specs.Semantics.{Begin, At, Exit, Out, Over, Fails, Hanging, Semantics}
+use Rattle.console_service.specs.Block.{First}
+use Rattle.console_service.specs.Semantics.{Begin, At, Exit, Out, Over, Fails, Hanging, Semantics}
 use Rattle.pascal_semantics.specs.declared.form.SimpleForm.{SimpleForm}
 use Rattle.pascal_semantics.specs.declared.form.SimpleForm.TheVariants.{Assign, WriteLine, Empty}
 use Rattle.pascal_semantics.specs.Charge.{charge_of, program_charge}

@@ -3,7 +3,7 @@
 -- the run-time error inside it.
 use Rattle.std.specs.Prelude.{◌≡◌, ℕ, ◌+◌, ◌<◌, ◌≤◌, List, length, slice_index}
 use Rattle.console_service.specs.Cpu.{Cpu, HasAt, Keeps, Comes, globals_begin, stack_begin, memory_end}
-use Rattle.code_image.specs.Image.{trap_word}
+use Rattle.console_service.specs.Image.{trap_word}
 use Rattle.pascal_semantics.specs.Step.{Result, Value, Error}
 
 -- the value is pushed, and the program goes on behind the words

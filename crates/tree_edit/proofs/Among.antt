@@ -1,6 +1,6 @@
 -- What a list says of one statement, among what it says of others.
 use Rattle.std.proofs.Common.{◌≡◌, List, ◌++◌, ap, ◌∙◌, sym, append_assoc}
-use Rattle.program_tree.specs.declared.stmt.Stmt.{Stmt}
+use Rattle.pascal_tree.specs.declared.stmt.Stmt.{Stmt}
 
 -- `of` the old one stands between others in the whole, and stays there where another is put in its place
 abbrev pub Splits : {A : Type 0} → (Stmt → List A) → List A → (Stmt → List A) → Stmt → Type 0

@@ -1,12 +1,12 @@
 -- An edit that is made changes the rows of one statement, and no others.
 use Rattle.std.proofs.Common.{◌≡◌, ℕ, zero, suc, Bool, true, false, List, [], ◌∷◌, Option, Some, None, Result, Ok, Err, refl, ap, ◌∙◌, subst}
 use Rattle.std.specs.Prelude.{slice_get, option_and_then, if◌then◌else◌, nat_lt, length}
-use Rattle.program_tree.specs.declared.stmt.Stmt.{Stmt, out-Stmt}
-use Rattle.program_tree.specs.declared.program.Program.{Program as Tree}
-use Rattle.tree_names.specs.Names.{names_within, renamed}
-use Rattle.named_program.specs.Paths.{ItemValue, OfProgram, OfDecl, OfRoutine, OfStmt, item_children, item_at, tree_at}
-use Rattle.named_program.specs.Rows.{program_rows}
-use Rattle.named_program.specs.Lookups.{name_of, path_of}
+use Rattle.pascal_tree.specs.declared.stmt.Stmt.{Stmt, out-Stmt}
+use Rattle.pascal_tree.specs.declared.program.Program.{Program as Tree}
+use Rattle.pascal_tree.specs.Names.{names_within, renamed}
+use Rattle.pascal_tree.specs.Paths.{ItemValue, OfProgram, OfDecl, OfRoutine, OfStmt, item_children, item_at, tree_at}
+use Rattle.pascal_tree.specs.Rows.{program_rows}
+use Rattle.program_tree.specs.Lookups.{name_of, path_of}
 use Rattle.tree_edit.specs.declared.fault.EditFault.{EditFault}
 use Rattle.tree_edit.specs.declared.fault.EditFault.TheVariants.{WrongKind, TooDeep, NamesSpent}
 use Rattle.tree_edit.specs.Place.{change}

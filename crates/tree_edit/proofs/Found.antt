@@ -1,9 +1,9 @@
 -- The outcome of an edit, by what bears the name.
 use Rattle.std.proofs.Common.{◌≡◌, ℕ, List, Option, Some, None, Result, Err, ap, ◌∙◌, sym, subst}
-use Rattle.program_tree.specs.declared.stmt.Stmt.{Stmt}
-use Rattle.program_tree.specs.declared.program.Program.{Program as Tree}
-use Rattle.named_program.specs.Paths.{ItemValue, tree_at}
-use Rattle.named_program.specs.Lookups.{name_of, path_of, item_named}
+use Rattle.pascal_tree.specs.declared.stmt.Stmt.{Stmt}
+use Rattle.pascal_tree.specs.declared.program.Program.{Program as Tree}
+use Rattle.pascal_tree.specs.Paths.{ItemValue, tree_at}
+use Rattle.program_tree.specs.Lookups.{name_of, path_of, item_named}
 use Rattle.tree_edit.specs.declared.fault.EditFault.{EditFault}
 use Rattle.tree_edit.specs.declared.fault.EditFault.TheVariants.{NoSuchName}
 use Rattle.tree_edit.specs.Edited.{Gives, replaced_at, replaced_found, replaced_program, stmt_of}

@@ -3,14 +3,14 @@ use Rattle.std.proofs.Common.{◌≡◌, ℕ, zero, suc, ◌+◌, ◌-◌, ◌<�
 use Rattle.std.specs.Prelude.{option_to_list, option_map}
 use Rattle.std.proofs.lemmas.List.{map-append, length-map}
 use Rattle.std.proofs.lemmas.Bool.{ltb-true, ltb-false}
-use Rattle.program_tree.specs.declared.stmt.Stmt.{Stmt, out-Stmt}
-use Rattle.program_tree.specs.declared.stmt.StmtKind.{StmtKind, StmtKind-F, out-StmtKind}
-use Rattle.program_tree.specs.declared.stmt.Arm.{Arm}
-use Rattle.program_tree.specs.declared.stmt.StmtKind.TheVariants as s
-use Rattle.program_tree.specs.declared.decl.Decl.{Decl}
-use Rattle.program_tree.specs.declared.decl.Block.{Block, Block-F, out-Block, out-roll-Block}
-use Rattle.program_tree.specs.declared.decl.Routine.{Routine, Routine-F, out-Routine, out-roll-Routine}
-use Rattle.named_program.specs.Paths.{ItemValue, OfProgram, OfDecl, OfRoutine, OfStmt, kind_parts, arm_body, stmt_children, block_children, any_children, item_children, item_name}
+use Rattle.pascal_tree.specs.declared.stmt.Stmt.{Stmt, out-Stmt}
+use Rattle.pascal_tree.specs.declared.stmt.StmtKind.{StmtKind, StmtKind-F, out-StmtKind}
+use Rattle.pascal_tree.specs.declared.stmt.Arm.{Arm}
+use Rattle.pascal_tree.specs.declared.stmt.StmtKind.TheVariants as s
+use Rattle.pascal_tree.specs.declared.decl.Decl.{Decl}
+use Rattle.pascal_tree.specs.declared.decl.Block.{Block, Block-F, out-Block, out-roll-Block}
+use Rattle.pascal_tree.specs.declared.decl.Routine.{Routine, Routine-F, out-Routine, out-roll-Routine}
+use Rattle.pascal_tree.specs.Paths.{ItemValue, OfProgram, OfDecl, OfRoutine, OfStmt, kind_parts, arm_body, stmt_children, block_children, any_children, item_children, item_name}
 use Rattle.tree_edit.specs.Place.{change, change_if, in_arm, in_kind, in_stmt, put_at, label_count, declared, with_routines, with_body, behind_decls, in_block, in_routine, put_in_block}
 use Rattle.tree_edit.proofs.Lists.{change_map, change_kept, change_front, change_rest, change_single, change_two, change_if_here, change_if_other}
 

@@ -2,17 +2,17 @@
 use Rattle.std.proofs.Common.{◌≡◌, ℕ, zero, suc, ◌+◌, List, [], ◌∷◌, ◌++◌, map, Option, Some, None, refl, ap, ◌∙◌, sym, subst, arith, append_assoc}
 use Rattle.std.specs.Prelude.{slice_get, option_and_then}
 use Rattle.std.proofs.lemmas.List.{append-nil}
-use Rattle.program_tree.specs.declared.stmt.Stmt.{Stmt, out-Stmt}
-use Rattle.program_tree.specs.declared.stmt.StmtKind.{StmtKind, StmtKind-F, out-StmtKind}
-use Rattle.program_tree.specs.declared.stmt.StmtKind.TheVariants as s
-use Rattle.program_tree.specs.declared.stmt.Arm.{Arm}
-use Rattle.program_tree.specs.declared.decl.Block.{Block}
-use Rattle.program_tree.specs.declared.decl.Routine.{Routine, Routine-F}
-use Rattle.tree_text.specs.Declarations.{heading_tokens}
-use Rattle.program_tree.specs.Tokens.{Toks}
-use Rattle.named_program.specs.Paths.{ItemValue, OfProgram, OfDecl, OfRoutine, OfStmt, item_children, item_name, item_at}
-use Rattle.named_program.specs.Rows.{Row, hole, label_part, own_kind, arm_text, own_text, rows_from, stmt_rows}
-use Rattle.named_program.proofs.Opened.{item_rows, own_row, item_opened}
+use Rattle.pascal_tree.specs.declared.stmt.Stmt.{Stmt, out-Stmt}
+use Rattle.pascal_tree.specs.declared.stmt.StmtKind.{StmtKind, StmtKind-F, out-StmtKind}
+use Rattle.pascal_tree.specs.declared.stmt.StmtKind.TheVariants as s
+use Rattle.pascal_tree.specs.declared.stmt.Arm.{Arm}
+use Rattle.pascal_tree.specs.declared.decl.Block.{Block}
+use Rattle.pascal_tree.specs.declared.decl.Routine.{Routine, Routine-F}
+use Rattle.pascal_tree.specs.DeclTokens.{heading_tokens}
+use Rattle.pascal_tree.specs.Tokens.{Toks}
+use Rattle.pascal_tree.specs.Paths.{ItemValue, OfProgram, OfDecl, OfRoutine, OfStmt, item_children, item_name, item_at}
+use Rattle.pascal_tree.specs.Rows.{Row, hole, label_part, own_kind, arm_text, own_text, rows_from, stmt_rows}
+use Rattle.program_tree.proofs.Opened.{item_rows, own_row, item_opened}
 use Rattle.tree_edit.specs.Place.{change, change_if, in_arm, in_kind, put_at}
 use Rattle.tree_edit.proofs.Among.{Splits, with_front, with_back, same_splits}
 use Rattle.tree_edit.proofs.Items.{put_item, item_put, name_put, routine_opened}

@@ -4,18 +4,18 @@ use Rattle.std.specs.Prelude.{slice_get, option_to_list, option_and_then}
 use Rattle.std.specs.List.{concat}
 use Rattle.std.proofs.lemmas.List.{append-nil, map-append}
 use Rattle.std.proofs.lemmas.List.Folds.{concat-append}
-use Rattle.program_tree.specs.declared.stmt.Stmt.{Stmt, out-Stmt}
-use Rattle.program_tree.specs.declared.stmt.StmtKind.{StmtKind, StmtKind-F, out-StmtKind}
-use Rattle.program_tree.specs.declared.stmt.StmtKind.TheFolds.{map-StmtKind, fold_out-StmtKind, fold_out-Arm, fold_out-Stmt}
-use Rattle.program_tree.specs.declared.stmt.Arm.{Arm}
+use Rattle.pascal_tree.specs.declared.stmt.Stmt.{Stmt, out-Stmt}
+use Rattle.pascal_tree.specs.declared.stmt.StmtKind.{StmtKind, StmtKind-F, out-StmtKind}
+use Rattle.pascal_tree.specs.declared.stmt.StmtKind.TheFolds.{map-StmtKind, fold_out-StmtKind, fold_out-Arm, fold_out-Stmt}
+use Rattle.pascal_tree.specs.declared.stmt.Arm.{Arm}
 use Rattle.dice_base.specs.declared.name.Name.{Name}
-use Rattle.program_tree.specs.declared.decl.Heading.{Heading}
-use Rattle.program_tree.specs.declared.decl.Decl.{Decl}
-use Rattle.program_tree.specs.declared.decl.Block.{Block, out-Block}
-use Rattle.program_tree.specs.declared.decl.Block.TheFolds.{map-Routine, fold_out-Block, fold_out-Routine}
-use Rattle.program_tree.specs.declared.decl.Routine.{Routine, Routine-F, out-Routine}
-use Rattle.tree_names.specs.Names.{of_kind, of_arm, of_stmt, of_block, of_routine, stmt_names, kind_names, arm_names, block_names, routine_names, program_names, any_names, decl_names, label_names}
-use Rattle.named_program.specs.Paths.{ItemValue, OfProgram, OfDecl, OfRoutine, OfStmt, kind_parts, arm_body, stmt_children, block_children, any_children, item_children, item_name, item_at}
+use Rattle.pascal_tree.specs.declared.decl.Heading.{Heading}
+use Rattle.pascal_tree.specs.declared.decl.Decl.{Decl}
+use Rattle.pascal_tree.specs.declared.decl.Block.{Block, out-Block}
+use Rattle.pascal_tree.specs.declared.decl.Block.TheFolds.{map-Routine, fold_out-Block, fold_out-Routine}
+use Rattle.pascal_tree.specs.declared.decl.Routine.{Routine, Routine-F, out-Routine}
+use Rattle.pascal_tree.specs.Names.{of_kind, of_arm, of_stmt, of_block, of_routine, stmt_names, kind_names, arm_names, block_names, routine_names, program_names, any_names, decl_names, label_names}
+use Rattle.pascal_tree.specs.Paths.{ItemValue, OfProgram, OfDecl, OfRoutine, OfStmt, kind_parts, arm_body, stmt_children, block_children, any_children, item_children, item_name, item_at}
 use Rattle.tree_edit.specs.Place.{change}
 use Rattle.tree_edit.proofs.Among.{Splits, with_front, with_back, same_splits}
 use Rattle.tree_edit.proofs.Items.{put_item, item_put, name_put}

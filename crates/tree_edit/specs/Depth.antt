@@ -1,20 +1,20 @@
 -- How many levels a tree takes, with its own: a bracketed expression, an argument, an index, a member of a set, the operand of
 -- `not` and a statement are each one level below that in which they stand.
 use Rattle.std.specs.Prelude.{ℕ, ◌+◌, max, List, [], ◌∷◌, Option, Some, None, map}
-use Rattle.program_tree.specs.declared.expr.AccessPart.{AccessPart, AccessPart-F, fold-AccessPart}
-use Rattle.program_tree.specs.declared.expr.Factor.{Factor, Factor-F, fold-Factor}
-use Rattle.program_tree.specs.declared.expr.Access.{Access, Access-F, fold-Access}
-use Rattle.program_tree.specs.declared.expr.AddPart.{AddPart, AddPart-F, fold-AddPart}
-use Rattle.program_tree.specs.declared.expr.Arg.{Arg, Arg-F, fold-Arg}
-use Rattle.program_tree.specs.declared.expr.Expr.{Expr, Expr-F, fold-Expr}
-use Rattle.program_tree.specs.declared.expr.MulPart.{MulPart, MulPart-F, fold-MulPart}
-use Rattle.program_tree.specs.declared.expr.RelPart.{RelPart, RelPart-F, fold-RelPart}
-use Rattle.program_tree.specs.declared.expr.SetMember.{SetMember, SetMember-F, fold-SetMember}
-use Rattle.program_tree.specs.declared.expr.SumExpr.{SumExpr, SumExpr-F, fold-SumExpr}
-use Rattle.program_tree.specs.declared.expr.Term.{Term, Term-F, fold-Term}
-use Rattle.program_tree.specs.declared.stmt.Stmt.{Stmt, Stmt-F, fold-Stmt}
-use Rattle.program_tree.specs.declared.stmt.StmtKind.{StmtKind, StmtKind-F, fold-StmtKind}
-use Rattle.program_tree.specs.declared.stmt.Arm.{Arm, Arm-F, fold-Arm}
+use Rattle.pascal_tree.specs.declared.expr.AccessPart.{AccessPart, AccessPart-F, fold-AccessPart}
+use Rattle.pascal_tree.specs.declared.expr.Factor.{Factor, Factor-F, fold-Factor}
+use Rattle.pascal_tree.specs.declared.expr.Access.{Access, Access-F, fold-Access}
+use Rattle.pascal_tree.specs.declared.expr.AddPart.{AddPart, AddPart-F, fold-AddPart}
+use Rattle.pascal_tree.specs.declared.expr.Arg.{Arg, Arg-F, fold-Arg}
+use Rattle.pascal_tree.specs.declared.expr.Expr.{Expr, Expr-F, fold-Expr}
+use Rattle.pascal_tree.specs.declared.expr.MulPart.{MulPart, MulPart-F, fold-MulPart}
+use Rattle.pascal_tree.specs.declared.expr.RelPart.{RelPart, RelPart-F, fold-RelPart}
+use Rattle.pascal_tree.specs.declared.expr.SetMember.{SetMember, SetMember-F, fold-SetMember}
+use Rattle.pascal_tree.specs.declared.expr.SumExpr.{SumExpr, SumExpr-F, fold-SumExpr}
+use Rattle.pascal_tree.specs.declared.expr.Term.{Term, Term-F, fold-Term}
+use Rattle.pascal_tree.specs.declared.stmt.Stmt.{Stmt, Stmt-F, fold-Stmt}
+use Rattle.pascal_tree.specs.declared.stmt.StmtKind.{StmtKind, StmtKind-F, fold-StmtKind}
+use Rattle.pascal_tree.specs.declared.stmt.Arm.{Arm, Arm-F, fold-Arm}
 
 -- the greatest of some numbers, 0 where there is none
 abbrev pub most : List ℕ → ℕ

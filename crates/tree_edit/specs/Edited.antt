@@ -1,14 +1,14 @@
 -- Edits of a program, with their faults in order.
 use Rattle.std.specs.Prelude.{◌≡◌, ℕ, ◌+◌, ◌-◌, nat_lt, Bool, true, false, not, ◌&&◌, ◌||◌, if◌then◌else◌, List, ◌++◌, length, Option, Some, None, option_and_then, Result, Ok, Err}
-use Rattle.program_tree.specs.declared.stmt.Stmt.{Stmt, out-Stmt}
-use Rattle.program_tree.specs.declared.stmt.StmtKind.{StmtKind, StmtKind-F, out-StmtKind}
-use Rattle.program_tree.specs.declared.stmt.Arm.{Arm}
-use Rattle.program_tree.specs.declared.decl.Block.{Block}
-use Rattle.program_tree.specs.declared.program.Program.{Program as Tree}
-use Rattle.tree_names.specs.Names.{names_within, renamed}
-use Rattle.named_program.specs.Paths.{ItemValue, OfStmt, tree_at}
-use Rattle.named_program.specs.Rows.{Row, stmt_rows, program_rows}
-use Rattle.named_program.specs.Lookups.{name_of, path_of}
+use Rattle.pascal_tree.specs.declared.stmt.Stmt.{Stmt, out-Stmt}
+use Rattle.pascal_tree.specs.declared.stmt.StmtKind.{StmtKind, StmtKind-F, out-StmtKind}
+use Rattle.pascal_tree.specs.declared.stmt.Arm.{Arm}
+use Rattle.pascal_tree.specs.declared.decl.Block.{Block}
+use Rattle.pascal_tree.specs.declared.program.Program.{Program as Tree}
+use Rattle.pascal_tree.specs.Names.{names_within, renamed}
+use Rattle.pascal_tree.specs.Paths.{ItemValue, OfStmt, tree_at}
+use Rattle.pascal_tree.specs.Rows.{Row, stmt_rows, program_rows}
+use Rattle.program_tree.specs.Lookups.{name_of, path_of}
 use Rattle.tree_edit.specs.declared.fault.EditFault.{EditFault}
 use Rattle.tree_edit.specs.declared.fault.EditFault.TheVariants.{NoSuchName, WrongKind, TooDeep, NamesSpent, NoMemory}
 use Rattle.tree_edit.specs.Depth.{stmt_depth}

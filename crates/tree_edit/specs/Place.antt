@@ -1,13 +1,13 @@
 -- A statement in the place at a path. A path leads from an item to one inside it: at each step it says which part to enter, counted
 -- from 0 in the order of the text. A path that leads nowhere changes nothing.
 use Rattle.std.specs.Prelude.{ℕ, zero, suc, ◌+◌, ◌-◌, ◌==◌, nat_lt, Bool, true, false, if◌then◌else◌, List, [], ◌∷◌, length, slice_get, Option, Some, None, option_map}
-use Rattle.program_tree.specs.declared.stmt.Stmt.{Stmt, out-Stmt, roll-Stmt}
-use Rattle.program_tree.specs.declared.stmt.StmtKind.{StmtKind, StmtKind-F, out-StmtKind}
-use Rattle.program_tree.specs.declared.stmt.Arm.{Arm, out-Arm, roll-Arm}
-use Rattle.program_tree.specs.declared.stmt.StmtKind.TheVariants as s
-use Rattle.program_tree.specs.declared.decl.Decl.{Decl}
-use Rattle.program_tree.specs.declared.decl.Block.{Block, out-Block, roll-Block}
-use Rattle.program_tree.specs.declared.decl.Routine.{Routine, out-Routine, roll-Routine}
+use Rattle.pascal_tree.specs.declared.stmt.Stmt.{Stmt, out-Stmt, roll-Stmt}
+use Rattle.pascal_tree.specs.declared.stmt.StmtKind.{StmtKind, StmtKind-F, out-StmtKind}
+use Rattle.pascal_tree.specs.declared.stmt.Arm.{Arm, out-Arm, roll-Arm}
+use Rattle.pascal_tree.specs.declared.stmt.StmtKind.TheVariants as s
+use Rattle.pascal_tree.specs.declared.decl.Decl.{Decl}
+use Rattle.pascal_tree.specs.declared.decl.Block.{Block, out-Block, roll-Block}
+use Rattle.pascal_tree.specs.declared.decl.Routine.{Routine, out-Routine, roll-Routine}
 
 -- the list, but for the element at the position
 abbrev pub change : {A : Type 0} → (A → A) → ℕ → List A → List A

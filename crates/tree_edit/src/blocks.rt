@@ -1,14 +1,16 @@
 //! A copy of a block with another statement at a path.
 ghost use Rattle.std.specs.Prelude.{◌≡◌, ◌+◌, ◌<◌, length, IfOk, MatchOption};
-ghost use Rattle.program_tree.specs.declared.decl.Block.{out-Block, roll-Block};
+ghost use Rattle.pascal_tree.specs.declared.decl.Block.{out-Block, roll-Block};
 ghost use Rattle.tree_edit.specs.Place as spec;
 
 use crate::place::put_boxed;
 use dice_base::NoMemory;
-use program_tree::{Block, Decl, Routine, Stmt};
+use pascal_tree::{
+    Block, Decl, Routine, Stmt, copy_block, copy_decls, copy_heading, copy_labels, copy_routines,
+    copy_stmt,
+};
 use sqlite_items::{Boxed, Items, at as item_at};
 use std::alloc::Global;
-use tree_copies::{copy_block, copy_decls, copy_heading, copy_labels, copy_routines, copy_stmt};
 
 // How far behind so many parts the position is.
 fn behind(at: usize, count: usize) -> Option<usize>

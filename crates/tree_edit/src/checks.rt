@@ -1,12 +1,12 @@
 //! When an edit is refused.
 ghost use Rattle.std.specs.Prelude.{◌≡◌, ◌+◌, nat_lt, length, slice_get};
-ghost use Rattle.tree_names.specs.Names.{names_within};
-ghost use Rattle.program_tree.specs.declared.decl.Block.{out-Block};
+ghost use Rattle.pascal_tree.specs.Names.{names_within};
+ghost use Rattle.pascal_tree.specs.declared.decl.Block.{out-Block};
 ghost use Rattle.tree_edit.specs.Edited as spec;
 ghost use Rattle.tree_edit.specs.Place.{leads_to_body};
 
 use crate::blocks::behind_decls;
-use program_tree::{Block, Stmt, StmtKind};
+use pascal_tree::{Block, Stmt, StmtKind};
 use tree_names::new_names;
 
 const LAST_LEVEL: usize = 64;

@@ -3,7 +3,7 @@ ghost use Rattle.std.specs.Prelude.{◌≡◌, ◌+◌, max, map, IfOk};
 ghost use Rattle.tree_edit.specs.Depth as spec;
 
 use dice_base::{NoMemory, one_more};
-use program_tree::{
+use pascal_tree::{
     Access, AccessPart, AddPart, Arg, Expr, Factor, MulPart, SetMember, SumExpr, Term,
 };
 

@@ -1,15 +1,15 @@
 //! A copy of a statement with another statement at a path.
 ghost use Rattle.std.specs.Prelude.{◌≡◌, IfOk};
-ghost use Rattle.program_tree.specs.declared.stmt.StmtKind.{out-StmtKind};
+ghost use Rattle.pascal_tree.specs.declared.stmt.StmtKind.{out-StmtKind};
 ghost use Rattle.tree_edit.specs.Place as spec;
 
 use dice_base::{NoMemory, Text};
-use program_tree::{Access, Arm, Expr, Stmt, StmtKind};
+use pascal_tree::{
+    Access, Arm, Expr, Stmt, StmtKind, copy_accesses, copy_arms, copy_constants, copy_expr,
+    copy_stmt, copy_stmt_kind, copy_stmts,
+};
 use sqlite_items::{Boxed, Items, at as item_at};
 use std::alloc::Global;
-use tree_copies::{
-    copy_accesses, copy_arms, copy_constants, copy_expr, copy_stmt, copy_stmt_kind, copy_stmts,
-};
 
 #[cycle(put_stmt)]
 fn put_list(

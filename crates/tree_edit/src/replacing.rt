@@ -1,10 +1,10 @@
 //! A statement in the place of another.
 ghost use Rattle.std.specs.Prelude.{◌≡◌, IfOk, OnErr, OnOk, Some, option_copied};
-ghost use Rattle.named_program.specs.Lookups.{item_value};
-ghost use Rattle.named_program.specs.Named.{IsNamed};
-ghost use Rattle.named_program.specs.Paths.{OfStmt, tree_at};
-ghost use Rattle.tree_names.specs.Names.{Counts, names_within, renamed};
-ghost use Rattle.program_tree.specs.declared.stmt.Stmt.{out-Stmt};
+ghost use Rattle.program_tree.specs.Lookups.{item_value};
+ghost use Rattle.program_tree.specs.Named.{IsNamed};
+ghost use Rattle.pascal_tree.specs.Paths.{OfStmt, tree_at};
+ghost use Rattle.pascal_tree.specs.Names.{Counts, names_within, renamed};
+ghost use Rattle.pascal_tree.specs.declared.stmt.Stmt.{out-Stmt};
 ghost use Rattle.tree_edit.specs.Edited.{Edits, Gives, IsEditedRows, replaced_program, replaced_stmt, stmt_of, with_stmt};
 
 use crate::EditFault;
@@ -12,10 +12,9 @@ use crate::blocks::put_block;
 use crate::checks::{are_spent, can_stand, is_too_deep};
 use crate::stmt_levels::stmt_depth;
 use dice_base::{Name, NoMemory};
-use named_program::{Item, Program};
-use program_tree::Stmt;
+use pascal_tree::{Stmt, copy_texts};
+use program_tree::{Item, Program};
 use std::alloc::Global;
-use tree_copies::copy_texts;
 use tree_names::name_stmt;
 
 // The program with this statement in the place at the path, and with this next name.

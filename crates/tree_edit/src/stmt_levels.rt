@@ -4,7 +4,7 @@ ghost use Rattle.tree_edit.specs.Depth as spec;
 
 use crate::depth::{access_depth, args_depth, expr_depth};
 use dice_base::{NoMemory, one_more};
-use program_tree::{Access, Arm, Expr, Stmt, StmtKind};
+use pascal_tree::{Access, Arm, Expr, Stmt, StmtKind};
 
 fn assign_depth(access: &Access, value: &Expr) -> Result<u32, NoMemory>
     ensures { IfOk result (λ n. n ≡ max (spec.access_depth access.now) (spec.expr_depth value.now)) }

@@ -1,11 +1,12 @@
 //! Replacements in a small program.
 use crate::{EditFault, replace};
 use dice_base::{Name, NoMemory, Text};
-use named_program::{Item, Program, name_program};
-use program_tree::{Block, Decl, DeclKind, Program as Tree, Stmt, StmtKind, TypeText};
+use pascal_tree::{Block, Decl, DeclKind, Program as Tree, Stmt, StmtKind, TypeText};
+use program_tree::{Item, Program};
 use sqlite_items::Items;
 use std::alloc::Global;
 use std::test::Fail;
+use tree_names::number_program;
 
 fn unnamed(kind: StmtKind) -> Stmt {
     Stmt {
@@ -59,7 +60,7 @@ fn program(alloc: Global) -> Result<Program, NoMemory> {
         },
         next: 0,
     };
-    name_program(alloc, &tree)
+    Program::from_numbered(alloc, number_program(alloc, &tree)?)
 }
 
 // Whether the item with this name is a statement.

@@ -1,14 +1,14 @@
 -- The names of a numbered program are numbers in turn.
 use Rattle.std.proofs.Common.{◌≡◌, ℕ, ◌+◌, List, [], ◌∷◌, ◌++◌, Option, Some, None, map, refl, ap, subst}
 use Rattle.dice_base.specs.declared.name.Name.{Name}
-use Rattle.program_tree.specs.declared.decl.Heading.{Heading}
-use Rattle.program_tree.specs.declared.decl.Decl.{Decl}
-use Rattle.program_tree.specs.declared.decl.Block.{Block, Block-F, roll-Block}
-use Rattle.program_tree.specs.declared.decl.Routine.{Routine, Routine-F, roll-Routine}
-use Rattle.program_tree.specs.declared.decl.Block.TheFolds.{map-Block, map-Routine, fold-roll-Block, fold-roll-Routine, ind-Block}
-use Rattle.program_tree.specs.declared.program.Program.{Program}
-use Rattle.tree_names.specs.Naming.{Numbering, in_turn, in_block, in_routine, block_numbered, routine_numbered, stmt_numbered, decls_numbered, labels_numbered, numbered}
-use Rattle.tree_names.specs.Names.{Counts, label_names, decl_names, of_block, of_routine, block_names, routine_names, program_names}
+use Rattle.pascal_tree.specs.declared.decl.Heading.{Heading}
+use Rattle.pascal_tree.specs.declared.decl.Decl.{Decl}
+use Rattle.pascal_tree.specs.declared.decl.Block.{Block, Block-F, roll-Block}
+use Rattle.pascal_tree.specs.declared.decl.Routine.{Routine, Routine-F, roll-Routine}
+use Rattle.pascal_tree.specs.declared.decl.Block.TheFolds.{map-Block, map-Routine, fold-roll-Block, fold-roll-Routine, ind-Block}
+use Rattle.pascal_tree.specs.declared.program.Program.{Program}
+use Rattle.pascal_tree.specs.Naming.{Numbering, in_turn, in_block, in_routine, block_numbered, routine_numbered, stmt_numbered, decls_numbered, labels_numbered, numbered}
+use Rattle.pascal_tree.specs.Names.{Counts, label_names, decl_names, of_block, of_routine, block_names, routine_names, program_names}
 use Rattle.tree_names.proofs.StmtNames.{Proper, counts_append, counts_turn, proper_stmt}
 
 numbered_block : (x : Block-F Block Routine) (n : ℕ) → block_numbered (roll-Block x) n ≡ in_block (map-Block Block Routine (Numbering Block) (Numbering Routine) block_numbered routine_numbered x) n

@@ -1,10 +1,10 @@
 -- The names of a block, part by part.
 use Rattle.std.proofs.Common.{◌≡◌, ℕ, List, sym, ap, ◌∙◌, IfOk, Result, Ok, Err}
-use Rattle.program_tree.specs.declared.decl.Decl.{Decl}
-use Rattle.program_tree.specs.declared.decl.Block.{Block, out-Block}
-use Rattle.program_tree.specs.declared.decl.Block.TheFolds.{fold_out-Block}
-use Rattle.program_tree.specs.declared.decl.Routine.{Routine}
-use Rattle.tree_names.specs.Naming.{Numbering, labels_numbered, decls_numbered, routines_numbered, with_ends, in_block, in_routine, block_numbered, routine_numbered}
+use Rattle.pascal_tree.specs.declared.decl.Decl.{Decl}
+use Rattle.pascal_tree.specs.declared.decl.Block.{Block, out-Block}
+use Rattle.pascal_tree.specs.declared.decl.Block.TheFolds.{fold_out-Block}
+use Rattle.pascal_tree.specs.declared.decl.Routine.{Routine}
+use Rattle.pascal_tree.specs.Naming.{Numbering, labels_numbered, decls_numbered, routines_numbered, with_ends, in_block, in_routine, block_numbered, routine_numbered}
 
 abbrev consts_of : Block → Numbering (List Decl)
 consts_of b n = decls_numbered (out-Block b).consts (labels_numbered (out-Block b).labels n).1

@@ -2,7 +2,7 @@
 use Rattle.std.proofs.Common.{◌≡◌, ◌≢◌, ◌≤◌, ◌<◌, ◌⊎◌, ℕ, ◌+◌, false, true, List, [], ◌∷◌, length, eqb, arith, inl, inr}
 use Rattle.std.specs.List.{AllByRecursion, IsDistinct}
 use Rattle.std.proofs.lemmas.Bool.Decides.{eqb_tells}
-use Rattle.tree_names.specs.Names.{Counts}
+use Rattle.pascal_tree.specs.Names.{Counts}
 
 pub counts_length : (a b : ℕ) (xs : List ℕ) → Counts a xs b → a + length xs ≡ b
 counts_length a b [] p = omega (arith, p)

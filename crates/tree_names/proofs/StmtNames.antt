@@ -1,16 +1,16 @@
 -- Names that are given in turn are numbers in turn.
 use Rattle.std.proofs.Common.{◌≡◌, ℕ, Bool, ◌+◌, List, [], ◌∷◌, ◌++◌, Some, None, map, refl, sym, ap, subst, ◌∙◌, append-nil}
 use Rattle.std.specs.List.{concat}
-use Rattle.program_tree.specs.declared.expr.Access.{Access}
-use Rattle.program_tree.specs.declared.expr.Arg.{Arg}
-use Rattle.program_tree.specs.declared.expr.Expr.{Expr}
-use Rattle.program_tree.specs.declared.stmt.Stmt.{Stmt, Stmt-F, out-Stmt, roll-Stmt}
-use Rattle.program_tree.specs.declared.stmt.StmtKind.{StmtKind, StmtKind-F, roll-StmtKind}
-use Rattle.program_tree.specs.declared.stmt.Arm.{Arm, Arm-F, roll-Arm}
-use Rattle.program_tree.specs.declared.stmt.StmtKind.TheVariants as s
-use Rattle.program_tree.specs.declared.stmt.StmtKind.TheFolds.{map-StmtKind, map-Arm, map-Stmt, fold-roll-StmtKind, fold-roll-Arm, fold-roll-Stmt, ind-StmtKind, ind-Stmt}
-use Rattle.tree_names.specs.Naming.{Numbering, in_turn, in_kind, in_arm, in_stmt, stmt_numbered, kind_numbered, arm_numbered}
-use Rattle.tree_names.specs.Names.{Counts, names_within, renamed, of_kind, of_arm, of_stmt, stmt_names, kind_names, arm_names}
+use Rattle.pascal_tree.specs.declared.expr.Access.{Access}
+use Rattle.pascal_tree.specs.declared.expr.Arg.{Arg}
+use Rattle.pascal_tree.specs.declared.expr.Expr.{Expr}
+use Rattle.pascal_tree.specs.declared.stmt.Stmt.{Stmt, Stmt-F, out-Stmt, roll-Stmt}
+use Rattle.pascal_tree.specs.declared.stmt.StmtKind.{StmtKind, StmtKind-F, roll-StmtKind}
+use Rattle.pascal_tree.specs.declared.stmt.Arm.{Arm, Arm-F, roll-Arm}
+use Rattle.pascal_tree.specs.declared.stmt.StmtKind.TheVariants as s
+use Rattle.pascal_tree.specs.declared.stmt.StmtKind.TheFolds.{map-StmtKind, map-Arm, map-Stmt, fold-roll-StmtKind, fold-roll-Arm, fold-roll-Stmt, ind-StmtKind, ind-Stmt}
+use Rattle.pascal_tree.specs.Naming.{Numbering, in_turn, in_kind, in_arm, in_stmt, stmt_numbered, kind_numbered, arm_numbered}
+use Rattle.pascal_tree.specs.Names.{Counts, names_within, renamed, of_kind, of_arm, of_stmt, stmt_names, kind_names, arm_names}
 
 -- ---- numbers in turn
 

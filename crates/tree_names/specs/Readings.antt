@@ -1,9 +1,9 @@
 -- Programs as they are read.
 use Rattle.std.specs.Prelude.{◌≡◌}
-use Rattle.program_tree.specs.declared.program.Program.{Program}
-use Rattle.program_tree.specs.Tokens.{Toks}
-use Rattle.program_tree.specs.Programs.{Derives}
-use Rattle.tree_names.specs.Naming.{numbered}
+use Rattle.pascal_tree.specs.declared.program.Program.{Program}
+use Rattle.pascal_tree.specs.Tokens.{Toks}
+use Rattle.pascal_tree.specs.Programs.{Derives}
+use Rattle.pascal_tree.specs.Naming.{numbered}
 
 -- the program, its items named in the order of the text, is a tree that derives the tokens
 abbrev pub IsReadingOf : Program → Toks → Type 0

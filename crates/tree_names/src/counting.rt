@@ -1,9 +1,9 @@
 //! How many names there are in a statement.
 ghost use Rattle.std.specs.Prelude.{◌≡◌, ◌-◌, length, map, min};
 ghost use Rattle.std.specs.List.{concat};
-ghost use Rattle.tree_names.specs.Names.{stmt_names, kind_names, arm_names, names_within};
+ghost use Rattle.pascal_tree.specs.Names.{stmt_names, kind_names, arm_names, names_within};
 
-use program_tree::{Arm, Stmt, StmtKind};
+use pascal_tree::{Arm, Stmt, StmtKind};
 
 const MOST: u32 = 2_000_000;
 

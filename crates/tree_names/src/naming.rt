@@ -1,16 +1,15 @@
 //! Names in text order.
 ghost use Rattle.std.specs.Prelude.{◌≡◌, ◌+◌, IfOk};
-ghost use Rattle.tree_names.specs.Naming as spec;
-ghost use Rattle.tree_names.specs.Names.{Counts, names_within, program_names, renamed};
+ghost use Rattle.pascal_tree.specs.Naming as spec;
+ghost use Rattle.pascal_tree.specs.Names.{Counts, names_within, program_names, renamed};
 
 use dice_base::{Name, NoMemory, Text, one_more};
-use program_tree::{Access, Arg, Arm, Block, Decl, Expr, Program, Routine, Stmt, StmtKind};
+use pascal_tree::{
+    Access, Arg, Arm, Block, Decl, Expr, Program, Routine, Stmt, StmtKind, copy_access,
+    copy_accesses, copy_args, copy_constants, copy_decl_kind, copy_expr, copy_heading, copy_texts,
+};
 use sqlite_items::{Boxed, Items};
 use std::alloc::Global;
-use tree_copies::{
-    copy_access, copy_accesses, copy_args, copy_constants, copy_decl_kind, copy_expr, copy_heading,
-    copy_texts,
-};
 
 fn copy_assign(alloc: Global, access: &Access, value: &Expr) -> Result<StmtKind, NoMemory>
     ensures { IfOk result (λ r. r ≡ StmtKind.Assign access.now value.now) }

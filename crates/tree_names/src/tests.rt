@@ -1,7 +1,7 @@
 //! The names of a small program.
 use super::*;
 use dice_base::{Name, NoMemory, Text};
-use program_tree::{Block, Decl, DeclKind, Program, Stmt, StmtKind, TypeText};
+use pascal_tree::{Block, Decl, DeclKind, Program, Stmt, StmtKind, TypeText};
 use sqlite_items::Items;
 use std::alloc::Global;
 use std::test::Fail;

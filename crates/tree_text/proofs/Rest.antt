@@ -2,7 +2,7 @@
 use Rattle.std.proofs.Common.{◌≡◌, ℕ, ◌+◌, ◌<◌, ◌≤◌, Bool, true, false, List, [], ◌∷◌, ◌++◌, map, get_or, length, refl, add-one}
 use Rattle.std.proofs.Math.ListN.{drop, drop_of_length-le}
 use Rattle.std.proofs.Math.Seq.{drop-cons}
-use Rattle.tree_text.specs.Joined.{behind_each, joined, separator}
+use Rattle.pascal_tree.specs.Joined.{behind_each, joined, separator}
 
 -- the items, with the separator before each but, where it is the first of all, the first
 abbrev pub still : {A B : Type 0} → A → (B → List A) → Bool → List B → List A

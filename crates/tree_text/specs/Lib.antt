@@ -1,5 +1,1 @@
-pub mod Declarations
-pub mod Expressions
-pub mod Joined
 pub mod Spelling
-pub mod Symbols

@@ -3,7 +3,7 @@ use Rattle.std.specs.Prelude.{ℕ, ◌==◌, if◌then◌else◌, List, [], ◌�
 use Rattle.std.specs.Fmt.{decimal}
 use Rattle.dice_base.specs.declared.token.TokenKind.{TokenKind}
 use Rattle.dice_base.specs.declared.token.TokenKind.TheVariants.{Word, Ident, Number, Str, Sign, Hole}
-use Rattle.dice_base.specs.declared.token.TheConstants.{WORD_SYMBOLS, SIGNS}
+use Rattle.dice_base.specs.declared.symbols.TheConstants.{WORD_SYMBOLS, SIGNS}
 
 -- each apostrophe stands twice
 abbrev pub doubled : List ℕ → List ℕ

@@ -1,17 +1,13 @@
 //! Constants, types, declarations and headings as tokens.
 ghost use Rattle.std.specs.Prelude.{◌≡◌, ◌++◌, ◌∷◌, [], map, OnOk};
-ghost use Rattle.tree_text.specs.Joined.{joined};
-ghost use Rattle.tree_text.specs.Expressions.{listed, in_brackets, in_parens};
-ghost use Rattle.tree_text.specs.Declarations as spec;
+ghost use Rattle.pascal_tree.specs.Joined.{joined};
+ghost use Rattle.pascal_tree.specs.ExprTokens.{listed, in_brackets, in_parens};
+ghost use Rattle.pascal_tree.specs.DeclTokens as spec;
 
 use crate::expressions::push_prefix;
-use crate::tokens::{
-    ARRAY, ARROW, CLOSE, COLON, COMMA, END, EQUAL, FUNCTION, LEFT, OF, OPEN, PACKED, PROCEDURE,
-    RECORD, RIGHT, SEMICOLON, SET, TO, VAR, push_ident, push_number, push_sign, push_str,
-    push_word, separate,
-};
-use dice_base::{NoMemory, Text, TokenKind};
-use program_tree::{Constant, DeclKind, FieldText, Heading, Section, TypeText};
+use crate::tokens::{push_ident, push_number, push_sign, push_str, push_word, separate};
+use dice_base::{NoMemory, Text, TokenKind, signs, words};
+use pascal_tree::{Constant, DeclKind, FieldText, Heading, Section, TypeText};
 use std::alloc::Global;
 
 /// Adds identifiers, with commas between.
@@ -21,7 +17,7 @@ pub fn push_idents(alloc: Global, idents: &[Text], out: &mut Vec<TokenKind>) -> 
 {
     let mut first = true;
     for ident in idents {
-        separate(COMMA, first, out)?;
+        separate(signs::COMMA, first, out)?;
         push_ident(alloc, ident, out)?;
         first = false;
     }
@@ -61,7 +57,7 @@ pub fn push_constants(
 {
     let mut first = true;
     for constant in constants {
-        separate(COMMA, first, out)?;
+        separate(signs::COMMA, first, out)?;
         push_constant(alloc, constant, out)?;
         first = false;
     }
@@ -72,7 +68,7 @@ fn push_packed(packed: bool, out: &mut Vec<TokenKind>) -> Result<(), NoMemory>
     ensures { OnOk result (out.new.items ≡ out.old.items ++ spec.packed_tokens packed) }
 {
     if packed {
-        push_word(PACKED, out)
+        push_word(words::PACKED, out)
     } else {
         Ok(())
     }
@@ -87,37 +83,37 @@ pub fn push_type(alloc: Global, shape: &TypeText, out: &mut Vec<TokenKind>) -> R
     match shape {
         TypeText::Named(ident) => push_ident(alloc, ident, out),
         TypeText::Enumeration(idents) => {
-            push_sign(OPEN, out)?;
+            push_sign(signs::OPEN, out)?;
             push_idents(alloc, idents.as_slice(), out)?;
-            push_sign(CLOSE, out)
+            push_sign(signs::CLOSE, out)
         }
         TypeText::Range(first, last) => {
             push_constant(alloc, first, out)?;
-            push_sign(TO, out)?;
+            push_sign(signs::RANGE, out)?;
             push_constant(alloc, last, out)
         }
         TypeText::Pointer(ident) => {
-            push_sign(ARROW, out)?;
+            push_sign(signs::ARROW, out)?;
             push_ident(alloc, ident, out)
         }
         TypeText::Array(packed, indexes, component) => {
             push_packed(*packed, out)?;
-            push_word(ARRAY, out)?;
+            push_word(words::ARRAY, out)?;
             push_indexes(alloc, indexes.as_slice(), out)?;
-            push_word(OF, out)?;
+            push_word(words::OF, out)?;
             push_type(alloc, component.get(), out)
         }
         TypeText::SetOf(packed, base) => {
             push_packed(*packed, out)?;
-            push_word(SET, out)?;
-            push_word(OF, out)?;
+            push_word(words::SET, out)?;
+            push_word(words::OF, out)?;
             push_type(alloc, base.get(), out)
         }
         TypeText::RecordOf(packed, fields) => {
             push_packed(*packed, out)?;
-            push_word(RECORD, out)?;
+            push_word(words::RECORD, out)?;
             push_fields(alloc, fields.as_slice(), out)?;
-            push_word(END, out)
+            push_word(words::END, out)
         }
     }
 }
@@ -130,9 +126,9 @@ fn push_indexes(
 ) -> Result<(), NoMemory>
     ensures { OnOk result (out.new.items ≡ out.old.items ++ in_brackets (map spec.type_tokens indexes.now)) }
 {
-    push_sign(LEFT, out)?;
+    push_sign(signs::LEFT, out)?;
     push_types(alloc, indexes, out)?;
-    push_sign(RIGHT, out)
+    push_sign(signs::RIGHT, out)
 }
 
 #[cycle(push_type)]
@@ -142,7 +138,7 @@ fn push_types(alloc: Global, shapes: &[TypeText], out: &mut Vec<TokenKind>) -> R
 {
     let mut first = true;
     for shape in shapes {
-        separate(COMMA, first, out)?;
+        separate(signs::COMMA, first, out)?;
         push_type(alloc, shape, out)?;
         first = false;
     }
@@ -157,11 +153,11 @@ fn push_fields(
     out: &mut Vec<TokenKind>,
 ) -> Result<(), NoMemory>
     ensures { OnOk result (out.new.items
-        ≡ out.old.items ++ joined (TokenKind.Sign SEMICOLON ∷ []) (map spec.field_tokens fields.now)) }
+        ≡ out.old.items ++ joined (TokenKind.Sign signs::SEMICOLON ∷ []) (map spec.field_tokens fields.now)) }
 {
     let mut first = true;
     for field in fields {
-        separate(SEMICOLON, first, out)?;
+        separate(signs::SEMICOLON, first, out)?;
         push_field(alloc, field, out)?;
         first = false;
     }
@@ -174,7 +170,7 @@ fn push_field(alloc: Global, field: &FieldText, out: &mut Vec<TokenKind>) -> Res
     ensures { OnOk result (out.new.items ≡ out.old.items ++ spec.field_tokens field.now) }
 {
     push_idents(alloc, field.idents.as_slice(), out)?;
-    push_sign(COLON, out)?;
+    push_sign(signs::COLON, out)?;
     push_type(alloc, &field.shape, out)
 }
 
@@ -184,7 +180,7 @@ fn push_labels(labels: &[u16], out: &mut Vec<TokenKind>) -> Result<(), NoMemory>
 {
     let mut first = true;
     for label in labels {
-        separate(COMMA, first, out)?;
+        separate(signs::COMMA, first, out)?;
         push_number(*label, out)?;
         first = false;
     }
@@ -200,17 +196,17 @@ pub fn push_decl(alloc: Global, kind: &DeclKind, out: &mut Vec<TokenKind>) -> Re
         DeclKind::LabelDecl(labels) => push_labels(labels.as_slice(), out),
         DeclKind::ConstDecl(ident, constant) => {
             push_ident(alloc, ident, out)?;
-            push_sign(EQUAL, out)?;
+            push_sign(signs::EQUAL, out)?;
             push_constant(alloc, constant, out)
         }
         DeclKind::TypeDecl(ident, shape) => {
             push_ident(alloc, ident, out)?;
-            push_sign(EQUAL, out)?;
+            push_sign(signs::EQUAL, out)?;
             push_type(alloc, shape, out)
         }
         DeclKind::VarDecl(idents, shape) => {
             push_idents(alloc, idents.as_slice(), out)?;
-            push_sign(COLON, out)?;
+            push_sign(signs::COLON, out)?;
             push_type(alloc, shape, out)
         }
     }
@@ -220,7 +216,7 @@ fn push_by_place(by_place: bool, out: &mut Vec<TokenKind>) -> Result<(), NoMemor
     ensures { OnOk result (out.new.items ≡ out.old.items ++ spec.var_tokens by_place) }
 {
     if by_place {
-        push_word(VAR, out)
+        push_word(words::VAR, out)
     } else {
         Ok(())
     }
@@ -232,7 +228,7 @@ fn push_section(alloc: Global, section: &Section, out: &mut Vec<TokenKind>) -> R
 {
     push_by_place(section.by_place, out)?;
     push_idents(alloc, section.idents.as_slice(), out)?;
-    push_sign(COLON, out)?;
+    push_sign(signs::COLON, out)?;
     push_ident(alloc, &section.shape, out)
 }
 
@@ -243,11 +239,11 @@ fn push_sections(
     out: &mut Vec<TokenKind>,
 ) -> Result<(), NoMemory>
     ensures { OnOk result (out.new.items
-        ≡ out.old.items ++ joined (TokenKind.Sign SEMICOLON ∷ []) (map spec.section_tokens sections.now)) }
+        ≡ out.old.items ++ joined (TokenKind.Sign signs::SEMICOLON ∷ []) (map spec.section_tokens sections.now)) }
 {
     let mut first = true;
     for section in sections {
-        separate(SEMICOLON, first, out)?;
+        separate(signs::SEMICOLON, first, out)?;
         push_section(alloc, section, out)?;
         first = false;
     }
@@ -260,14 +256,14 @@ fn push_params(
     out: &mut Vec<TokenKind>,
 ) -> Result<(), NoMemory>
     ensures { OnOk result (out.new.items
-        ≡ out.old.items ++ in_parens (TokenKind.Sign SEMICOLON) (map spec.section_tokens sections.now)) }
+        ≡ out.old.items ++ in_parens (TokenKind.Sign signs::SEMICOLON) (map spec.section_tokens sections.now)) }
 {
     if sections.is_empty() {
         return Ok(());
     }
-    push_sign(OPEN, out)?;
+    push_sign(signs::OPEN, out)?;
     push_sections(alloc, sections, out)?;
-    push_sign(CLOSE, out)
+    push_sign(signs::CLOSE, out)
 }
 
 fn push_result(
@@ -280,7 +276,7 @@ fn push_result(
     match shape {
         None => Ok(()),
         Some(ident) => {
-            push_sign(COLON, out)?;
+            push_sign(signs::COLON, out)?;
             push_ident(alloc, ident, out)
         }
     }
@@ -290,7 +286,11 @@ fn push_result(
 fn heading_word(function: bool) -> u8
     ensures { TokenKind.Word result ≡ spec.routine_word function }
 {
-    if function { FUNCTION } else { PROCEDURE }
+    if function {
+        words::FUNCTION
+    } else {
+        words::PROCEDURE
+    }
 }
 
 /// Adds the tokens of a heading.

@@ -1,15 +1,11 @@
 //! Expressions and accesses as tokens.
 ghost use Rattle.std.specs.Prelude.{◌≡◌, ◌++◌, ◌∷◌, [], map, OnOk};
-ghost use Rattle.tree_text.specs.Joined.{flat};
-ghost use Rattle.tree_text.specs.Expressions as spec;
+ghost use Rattle.pascal_tree.specs.Joined.{flat};
+ghost use Rattle.pascal_tree.specs.ExprTokens as spec;
 
-use crate::tokens::{
-    AND, ARROW, AT_LEAST, AT_MOST, CLOSE, COLON, COMMA, DIV, EQUAL, GREATER, IN, LEFT, LESS, MINUS,
-    MOD, NIL, NOT, NOT_EQUAL, OPEN, OR, PERIOD, PLUS, RIGHT, TIMES, TO, push_ident, push_number,
-    push_sign, push_str, push_word, separate,
-};
-use dice_base::{NoMemory, TokenKind};
-use program_tree::{
+use crate::tokens::{push_ident, push_number, push_sign, push_str, push_word, separate};
+use dice_base::{NoMemory, TokenKind, signs, words};
+use pascal_tree::{
     Access, AccessPart, AddOp, AddPart, Arg, Expr, Factor, MulOp, MulPart, Prefix, RelOp, RelPart,
     SetMember, SumExpr, Term,
 };
@@ -21,8 +17,8 @@ pub fn push_prefix(prefix: Prefix, out: &mut Vec<TokenKind>) -> Result<(), NoMem
 {
     match prefix {
         Prefix::Without => Ok(()),
-        Prefix::Plus => push_sign(PLUS, out),
-        Prefix::Minus => push_sign(MINUS, out),
+        Prefix::Plus => push_sign(signs::PLUS, out),
+        Prefix::Minus => push_sign(signs::MINUS, out),
     }
 }
 
@@ -30,13 +26,13 @@ fn push_relation_op(op: RelOp, out: &mut Vec<TokenKind>) -> Result<(), NoMemory>
     ensures { OnOk result (out.new.items ≡ out.old.items ++ spec.rel_token op ∷ []) }
 {
     match op {
-        RelOp::Equal => push_sign(EQUAL, out),
-        RelOp::NotEqual => push_sign(NOT_EQUAL, out),
-        RelOp::Less => push_sign(LESS, out),
-        RelOp::Greater => push_sign(GREATER, out),
-        RelOp::LessEqual => push_sign(AT_MOST, out),
-        RelOp::GreaterEqual => push_sign(AT_LEAST, out),
-        RelOp::Member => push_word(IN, out),
+        RelOp::Equal => push_sign(signs::EQUAL, out),
+        RelOp::NotEqual => push_sign(signs::NOT_EQUAL, out),
+        RelOp::Less => push_sign(signs::LESS, out),
+        RelOp::Greater => push_sign(signs::GREATER, out),
+        RelOp::LessEqual => push_sign(signs::AT_MOST, out),
+        RelOp::GreaterEqual => push_sign(signs::AT_LEAST, out),
+        RelOp::Member => push_word(words::IN, out),
     }
 }
 
@@ -44,9 +40,9 @@ fn push_adding_op(op: AddOp, out: &mut Vec<TokenKind>) -> Result<(), NoMemory>
     ensures { OnOk result (out.new.items ≡ out.old.items ++ spec.add_token op ∷ []) }
 {
     match op {
-        AddOp::Plus => push_sign(PLUS, out),
-        AddOp::Minus => push_sign(MINUS, out),
-        AddOp::Or => push_word(OR, out),
+        AddOp::Plus => push_sign(signs::PLUS, out),
+        AddOp::Minus => push_sign(signs::MINUS, out),
+        AddOp::Or => push_word(words::OR, out),
     }
 }
 
@@ -54,10 +50,10 @@ fn push_multiplying_op(op: MulOp, out: &mut Vec<TokenKind>) -> Result<(), NoMemo
     ensures { OnOk result (out.new.items ≡ out.old.items ++ spec.mul_token op ∷ []) }
 {
     match op {
-        MulOp::Times => push_sign(TIMES, out),
-        MulOp::Div => push_word(DIV, out),
-        MulOp::Mod => push_word(MOD, out),
-        MulOp::And => push_word(AND, out),
+        MulOp::Times => push_sign(signs::TIMES, out),
+        MulOp::Div => push_word(words::DIV, out),
+        MulOp::Mod => push_word(words::MOD, out),
+        MulOp::And => push_word(words::AND, out),
     }
 }
 
@@ -156,24 +152,24 @@ fn push_factor(alloc: Global, factor: &Factor, out: &mut Vec<TokenKind>) -> Resu
     match factor {
         Factor::Number(number) => push_number(*number, out),
         Factor::Str(text) => push_str(alloc, text, out),
-        Factor::Nil => push_word(NIL, out),
+        Factor::Nil => push_word(words::NIL, out),
         Factor::Access(access) => push_access(alloc, access, out),
         Factor::Call(ident, args) => {
             push_ident(alloc, ident, out)?;
             push_args(alloc, args.as_slice(), out)
         }
         Factor::Members(members) => {
-            push_sign(LEFT, out)?;
+            push_sign(signs::LEFT, out)?;
             push_members(alloc, members.as_slice(), out)?;
-            push_sign(RIGHT, out)
+            push_sign(signs::RIGHT, out)
         }
         Factor::Paren(expr) => {
-            push_sign(OPEN, out)?;
+            push_sign(signs::OPEN, out)?;
             push_expr(alloc, expr.get(), out)?;
-            push_sign(CLOSE, out)
+            push_sign(signs::CLOSE, out)
         }
         Factor::Not(factor) => {
-            push_word(NOT, out)?;
+            push_word(words::NOT, out)?;
             push_factor(alloc, factor.get(), out)
         }
     }
@@ -190,7 +186,7 @@ fn push_members(
 {
     let mut first = true;
     for member in members {
-        separate(COMMA, first, out)?;
+        separate(signs::COMMA, first, out)?;
         push_member(alloc, member, out)?;
         first = false;
     }
@@ -206,7 +202,7 @@ fn push_member(alloc: Global, member: &SetMember, out: &mut Vec<TokenKind>) -> R
     match &member.last {
         None => Ok(()),
         Some(last) => {
-            push_sign(TO, out)?;
+            push_sign(signs::RANGE, out)?;
             push_expr(alloc, last, out)
         }
     }
@@ -221,9 +217,9 @@ pub fn push_args(alloc: Global, args: &[Arg], out: &mut Vec<TokenKind>) -> Resul
     if args.is_empty() {
         return Ok(());
     }
-    push_sign(OPEN, out)?;
+    push_sign(signs::OPEN, out)?;
     push_arg_list(alloc, args, out)?;
-    push_sign(CLOSE, out)
+    push_sign(signs::CLOSE, out)
 }
 
 #[cycle(push_expr)]
@@ -233,7 +229,7 @@ fn push_arg_list(alloc: Global, args: &[Arg], out: &mut Vec<TokenKind>) -> Resul
 {
     let mut first = true;
     for arg in args {
-        separate(COMMA, first, out)?;
+        separate(signs::COMMA, first, out)?;
         push_arg(alloc, arg, out)?;
         first = false;
     }
@@ -249,7 +245,7 @@ fn push_arg(alloc: Global, arg: &Arg, out: &mut Vec<TokenKind>) -> Result<(), No
     match &arg.width {
         None => Ok(()),
         Some(width) => {
-            push_sign(COLON, out)?;
+            push_sign(signs::COLON, out)?;
             push_expr(alloc, width, out)
         }
     }
@@ -290,15 +286,15 @@ fn push_access_part(
 {
     match part {
         AccessPart::Index(exprs) => {
-            push_sign(LEFT, out)?;
+            push_sign(signs::LEFT, out)?;
             push_exprs(alloc, exprs.as_slice(), out)?;
-            push_sign(RIGHT, out)
+            push_sign(signs::RIGHT, out)
         }
         AccessPart::Field(ident) => {
-            push_sign(PERIOD, out)?;
+            push_sign(signs::PERIOD, out)?;
             push_ident(alloc, ident, out)
         }
-        AccessPart::Dereference => push_sign(ARROW, out),
+        AccessPart::Dereference => push_sign(signs::ARROW, out),
     }
 }
 
@@ -309,7 +305,7 @@ fn push_exprs(alloc: Global, exprs: &[Expr], out: &mut Vec<TokenKind>) -> Result
 {
     let mut first = true;
     for expr in exprs {
-        separate(COMMA, first, out)?;
+        separate(signs::COMMA, first, out)?;
         push_expr(alloc, expr, out)?;
         first = false;
     }
@@ -327,7 +323,7 @@ pub fn push_accesses(
 {
     let mut first = true;
     for access in accesses {
-        separate(COMMA, first, out)?;
+        separate(signs::COMMA, first, out)?;
         push_access(alloc, access, out)?;
         first = false;
     }

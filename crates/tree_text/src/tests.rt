@@ -1,7 +1,7 @@
 //! Trees as text, token by token.
 use super::*;
 use dice_base::{NoMemory, Text, TokenKind};
-use program_tree::{
+use pascal_tree::{
     Access, AccessPart, AddOp, AddPart, Arg, Constant, DeclKind, Expr, Factor, Heading, MulOp,
     MulPart, Prefix, Section, SetMember, SumExpr, Term, TypeText,
 };

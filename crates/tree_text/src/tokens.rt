@@ -1,79 +1,9 @@
-//! Single tokens, and the numbers of the word symbols and signs.
+//! Single tokens.
 ghost use Rattle.std.specs.Prelude.{◌≡◌, ◌++◌, ◌∷◌, [], OnOk};
-ghost use Rattle.tree_text.specs.Joined.{separator};
+ghost use Rattle.pascal_tree.specs.Joined.{separator};
 
 use dice_base::{NoMemory, Text, TokenKind};
 use std::alloc::Global;
-
-pub const AND: u8 = 0;
-
-pub const ARRAY: u8 = 1;
-
-pub const DIV: u8 = 5;
-
-pub const END: u8 = 9;
-
-pub const FUNCTION: u8 = 12;
-
-pub const IN: u8 = 15;
-
-pub const MOD: u8 = 17;
-
-pub const NIL: u8 = 18;
-
-pub const NOT: u8 = 19;
-
-pub const OF: u8 = 20;
-
-pub const OR: u8 = 21;
-
-pub const PACKED: u8 = 22;
-
-pub const PROCEDURE: u8 = 23;
-
-pub const RECORD: u8 = 25;
-
-pub const SET: u8 = 27;
-
-pub const VAR: u8 = 32;
-
-pub const PLUS: u8 = 0;
-
-pub const MINUS: u8 = 1;
-
-pub const TIMES: u8 = 2;
-
-pub const EQUAL: u8 = 3;
-
-pub const NOT_EQUAL: u8 = 4;
-
-pub const LESS: u8 = 5;
-
-pub const GREATER: u8 = 6;
-
-pub const AT_MOST: u8 = 7;
-
-pub const AT_LEAST: u8 = 8;
-
-pub const OPEN: u8 = 9;
-
-pub const CLOSE: u8 = 10;
-
-pub const LEFT: u8 = 11;
-
-pub const RIGHT: u8 = 12;
-
-pub const PERIOD: u8 = 14;
-
-pub const COMMA: u8 = 15;
-
-pub const SEMICOLON: u8 = 16;
-
-pub const COLON: u8 = 17;
-
-pub const TO: u8 = 18;
-
-pub const ARROW: u8 = 19;
 
 /// Adds the word symbol of a number.
 pub fn push_word(word: u8, out: &mut Vec<TokenKind>) -> Result<(), NoMemory>

@@ -1,5 +1,5 @@
 use Rattle.std.proofs.Common.{sym, refl, Some, None}
-use Rattle.named_program.specs.Lookups.{item_value}
+use Rattle.program_tree.specs.Lookups.{item_value}
 use Rattle.tree_edit.specs.Edited.{replaced_program, replaced_stmt}
 use Rattle.tree_edit.proofs.Found.{none_found, item_found, same_gives}
 use Rattle.tree_edit.proofs.replacing.replaced.Goals as goal

@@ -1,6 +1,6 @@
 use Rattle.std.proofs.Common.{◌≡◌, ◌-◌, length, map, drop}
 use Rattle.std.specs.List.{concat}
-use Rattle.tree_names.specs.Names.{stmt_names, arm_names}
+use Rattle.pascal_tree.specs.Names.{stmt_names, arm_names}
 use Rattle.tree_names.proofs.counting.+behind_stmt.Given as goal
 
 abbrev pub invariant-behind_stmts-loop-stmt : goal.invariant-behind_stmts-loop-stmt

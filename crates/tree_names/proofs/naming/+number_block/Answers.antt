@@ -1,7 +1,7 @@
 use Rattle.std.proofs.Common.{List, ap, ◌∙◌}
-use Rattle.program_tree.specs.declared.decl.Decl.{Decl}
-use Rattle.program_tree.specs.declared.decl.Routine.{Routine}
-use Rattle.tree_names.specs.Naming.{decls_numbered, routines_numbered}
+use Rattle.pascal_tree.specs.declared.decl.Decl.{Decl}
+use Rattle.pascal_tree.specs.declared.decl.Routine.{Routine}
+use Rattle.pascal_tree.specs.Naming.{decls_numbered, routines_numbered}
 use Rattle.tree_names.proofs.Blocks.{block_by_parts, ok_same}
 use Rattle.tree_names.proofs.naming.+number_block.Goals as goal
 

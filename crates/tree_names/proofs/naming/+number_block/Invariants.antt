@@ -1,5 +1,5 @@
 use Rattle.std.proofs.Common.{◌≡◌, drop}
-use Rattle.tree_names.specs.Naming.{routines_numbered}
+use Rattle.pascal_tree.specs.Naming.{routines_numbered}
 use Rattle.tree_names.proofs.Numbers.{behind}
 use Rattle.tree_names.proofs.naming.+number_block.Given as goal
 

@@ -1,6 +1,6 @@
 use Rattle.std.proofs.Common.{ℕ, sym, subst, rules}
-use Rattle.program_tree.specs.declared.stmt.StmtKind.{StmtKind}
-use Rattle.tree_names.specs.Names.{Counts, kind_names}
+use Rattle.pascal_tree.specs.declared.stmt.StmtKind.{StmtKind}
+use Rattle.pascal_tree.specs.Names.{Counts, kind_names}
 use Rattle.tree_names.proofs.StmtNames.{proper_kind}
 use Rattle.tree_names.proofs.naming.name_stmt.Goals as goal
 

@@ -1,6 +1,6 @@
 use Rattle.std.proofs.Common.{ℕ, refl, sym, subst, rules}
-use Rattle.program_tree.specs.declared.decl.Block.{Block}
-use Rattle.tree_names.specs.Names.{Counts, block_names}
+use Rattle.pascal_tree.specs.declared.decl.Block.{Block}
+use Rattle.pascal_tree.specs.Names.{Counts, block_names}
 use Rattle.tree_names.proofs.BlockNames.{proper_block}
 use Rattle.tree_names.proofs.naming.number_program.Goals as goal
 

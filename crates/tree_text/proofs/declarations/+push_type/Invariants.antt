@@ -1,8 +1,8 @@
 use Rattle.std.proofs.Common.{◌≡◌, [], ◌∷◌, ◌++◌, drop, map}
-use Rattle.tree_text.specs.Joined.{joined}
-use Rattle.tree_text.specs.Symbols.{comma_sign, semicolon_sign}
-use Rattle.tree_text.specs.Expressions.{listed}
-use Rattle.tree_text.specs.Declarations.{type_tokens, field_tokens}
+use Rattle.pascal_tree.specs.Joined.{joined}
+use Rattle.dice_base.specs.Symbols.{comma_sign, semicolon_sign}
+use Rattle.pascal_tree.specs.ExprTokens.{listed}
+use Rattle.pascal_tree.specs.DeclTokens.{type_tokens, field_tokens}
 use Rattle.tree_text.proofs.Rest.{still}
 use Rattle.tree_text.proofs.declarations.+push_type.Given as goal
 

@@ -1,7 +1,7 @@
 use Rattle.std.proofs.Common.{◌≡◌, ◌++◌, drop, map}
-use Rattle.tree_text.specs.Symbols.{comma_sign}
-use Rattle.tree_text.specs.Expressions.{listed}
-use Rattle.tree_text.specs.Declarations.{ident_tokens}
+use Rattle.dice_base.specs.Symbols.{comma_sign}
+use Rattle.pascal_tree.specs.ExprTokens.{listed}
+use Rattle.pascal_tree.specs.DeclTokens.{ident_tokens}
 use Rattle.tree_text.proofs.Rest.{still}
 use Rattle.tree_text.proofs.declarations.push_idents.Given as goal
 

@@ -1,7 +1,7 @@
 use Rattle.std.proofs.Common.{◌≡◌, [], ◌∷◌, ◌++◌, drop, map}
-use Rattle.tree_text.specs.Symbols.{semicolon_sign}
-use Rattle.tree_text.specs.Joined.{joined}
-use Rattle.tree_text.specs.Declarations.{section_tokens}
+use Rattle.dice_base.specs.Symbols.{semicolon_sign}
+use Rattle.pascal_tree.specs.Joined.{joined}
+use Rattle.pascal_tree.specs.DeclTokens.{section_tokens}
 use Rattle.tree_text.proofs.Rest.{still}
 use Rattle.tree_text.proofs.declarations.push_sections.Given as goal
 

@@ -1,7 +1,7 @@
 use Rattle.std.proofs.Common.{◌≡◌, ◌++◌, drop, map}
-use Rattle.tree_text.specs.Joined.{flat}
-use Rattle.tree_text.specs.Symbols.{comma_sign}
-use Rattle.tree_text.specs.Expressions.{listed, adding_tokens, multiplying_tokens, member_tokens, arg_tokens, part_tokens, expr_tokens}
+use Rattle.pascal_tree.specs.Joined.{flat}
+use Rattle.dice_base.specs.Symbols.{comma_sign}
+use Rattle.pascal_tree.specs.ExprTokens.{listed, adding_tokens, multiplying_tokens, member_tokens, arg_tokens, part_tokens, expr_tokens}
 use Rattle.tree_text.proofs.Rest.{still}
 use Rattle.tree_text.proofs.expressions.+push_expr.Given as goal
 

@@ -1,6 +1,6 @@
 use Rattle.std.proofs.Common.{◌≡◌, ◌++◌, drop, map}
-use Rattle.tree_text.specs.Symbols.{comma_sign}
-use Rattle.tree_text.specs.Expressions.{listed, access_tokens}
+use Rattle.dice_base.specs.Symbols.{comma_sign}
+use Rattle.pascal_tree.specs.ExprTokens.{listed, access_tokens}
 use Rattle.tree_text.proofs.Rest.{still}
 use Rattle.tree_text.proofs.expressions.push_accesses.Given as goal
 

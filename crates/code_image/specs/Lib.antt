@@ -1,5 +1,0 @@
-pub mod Block
-pub mod Semantics
-pub mod Plain
-pub mod Image
-pub mod BlockOf

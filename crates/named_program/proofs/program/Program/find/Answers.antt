@@ -1,5 +1,0 @@
-use Rattle.named_program.proofs.Searched.{found_as_rows}
-use Rattle.named_program.proofs.program.Program.find.Goals as goal
-
-pub returns-clause-rows : goal.returns-clause-rows
-returns-clause-rows c = found_as_rows _ _ _ c.item_named.ensures.value

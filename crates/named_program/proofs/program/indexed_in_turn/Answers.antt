@@ -1,6 +1,0 @@
-use Rattle.std.proofs.Common.{arith}
-use Rattle.named_program.proofs.Counted.{named_by_counting}
-use Rattle.named_program.proofs.program.indexed_in_turn.Goals as goal
-
-pub indexed-requires : goal.indexed-requires
-indexed-requires c = named_by_counting _ c.requires.names (omega arith)

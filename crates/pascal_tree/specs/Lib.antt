@@ -1,0 +1,13 @@
+pub mod Expressions
+pub mod Forms
+pub mod Programs
+pub mod Statements
+pub mod Tokens
+pub mod Classes
+pub mod Joined
+pub mod ExprTokens
+pub mod DeclTokens
+pub mod Naming
+pub mod Names
+pub mod Paths
+pub mod Rows

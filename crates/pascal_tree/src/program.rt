@@ -1,0 +1,22 @@
+//! Whole programs.
+use crate::{Block, Stmt};
+use dice_base::Text;
+use sqlite_items::Items;
+
+/// A program (ISO 7185:1990, 6.10). Its own name is 1.
+#[derive(Debug, Drop)]
+pub struct Program {
+    pub ident: Text,
+    /// The program parameters.
+    pub files: Items<Text>,
+    pub block: Block,
+    /// The number behind all names that were given, or 0 where none was.
+    pub next: u32,
+}
+
+/// A statement whose substatements are left out: in the place of each stands an empty statement without a label and
+/// with the name 0.
+#[derive(Debug, Drop)]
+pub struct Header {
+    pub stmt: Stmt,
+}
