@@ -1,2 +1,2 @@
 mod Slices
-mod Words
+mod SignedValue
