@@ -5,5 +5,6 @@ pub mod Lines
 pub mod LinesLaws
 pub mod Memory
 pub mod Part
+pub mod Standard
 pub mod Symbols
 pub mod Word

@@ -1,5 +1,5 @@
 -- What the source and the sink in memory tell.
-use Rattle.std.specs.Prelude.{ℕ, ◌+◌, ◌-◌, ◌^◌, min, Bool, List, drop, nat_eq}
+use Rattle.std.specs.Prelude.{ℕ, ◌+◌, ◌-◌, ◌^◌, min, Bool, ◌&&◌, ◌||◌, List, length, take, drop, nat_eq, nat_lt, vec_len}
 use Rattle.std.specs.List.{list_any}
 use Rattle.dice_base.specs.declared.memory.MemSource.{MemSource}
 use Rattle.dice_base.specs.declared.memory.MemSink.{MemSink}
@@ -8,6 +8,7 @@ use Rattle.dice_base.specs.declared.memory.MemSink.{MemSink}
 abbrev pub next_call : ℕ → ℕ
 next_call calls = min (calls + 1) (2 ^ 32 - 1)
 
+-- whether the number of the next call is among those that fail
 abbrev pub lists_next : List ℕ → ℕ → Bool
 lists_next fails calls = list_any (λ n. nat_eq n (next_call calls)) fails
 
@@ -37,11 +38,11 @@ read_faults s = s.faults
 
 -- the bytes that were taken
 abbrev pub bytes_held : MemSink → List ℕ
-bytes_held s = s.bytes.items
+bytes_held s = take s.filled s.bytes.items
 
 -- how many bytes there is room for in all
 abbrev pub room_of : MemSink → ℕ
-room_of s = s.room
+room_of s = vec_len s.bytes
 
 -- how many bytes a write takes at the most
 abbrev pub write_step : MemSink → ℕ
@@ -58,3 +59,11 @@ writes s = s.calls
 -- how often a write failed
 abbrev pub write_faults : MemSink → ℕ
 write_faults s = s.faults
+
+-- whether the sink has no room left
+abbrev pub is_full : MemSink → Bool
+is_full s = nat_eq (length (bytes_held s)) (room_of s)
+
+-- whether a write of this piece fails: its call is listed, or there is no room for any of its bytes
+abbrev pub refuses : MemSink → List ℕ → Bool
+refuses s piece = lists_next (failing_writes s) (writes s) || (is_full s && nat_lt 0 (length piece))

@@ -28,6 +28,3 @@ pub use symbols::{SIGNS, WORD_SYMBOLS, signs, words};
 pub use text::Text;
 pub use token::{Token, TokenKind};
 pub use whole::write_all;
-
-#[cfg(test)]
-mod tests;

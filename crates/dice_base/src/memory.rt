@@ -7,7 +7,7 @@ ghost use Rattle.dice_base.specs.Causes.{HasCause};
 use crate::{Failed, NoMemory, Sink, Source};
 use std::alloc::Global;
 
-/// A source that gives bytes from memory, so many at a time at most.
+/// A source that gives bytes from memory, at most `step` at a time.
 #[derive(Drop)]
 pub struct MemSource {
     bytes: Vec<u8>,
@@ -20,15 +20,17 @@ pub struct MemSource {
     ghost moves: { 0 < step },
 }
 
-/// A sink that keeps bytes in memory, so many at a time at most, until it is full.
+/// A sink that keeps bytes in memory, at most `step` at a time, until it is full. All its memory is taken when it is
+/// made.
 #[derive(Drop)]
 pub struct MemSink {
     bytes: Vec<u8>,
-    room: usize,
+    filled: usize,
     step: usize,
     fails: Vec<u32>,
     calls: u32,
     faults: u64,
+    ghost within: { filled ≤ vec_len bytes },
     ghost moves: { 0 < step },
 }
 
@@ -85,7 +87,8 @@ impl Source for MemSource {
         ensures bytes { ReadConsumes (Some (bytes_left self.old)) (Some (bytes_left self.new)) result into.new }
         ensures cause { HasCause (read_faults self.old) (read_faults self.new) result }
         ensures failed { is_err result ≡ lists_next (failing_reads self.old) (reads self.old) }
-        ensures count { IfOk result (λ n. n ≡ min (min (length (bytes_left self.old)) (length into.old)) (read_step self.old)) }
+        ensures count { IfOk result (λ n. n ≡ min (min (length (bytes_left self.old))
+            (length into.old)) (read_step self.old)) }
         ensures calls { reads self.new ≡ next_call (reads self.old) }
         ensures step { read_step self.new ≡ read_step self.old }
         ensures fails { failing_reads self.new ≡ failing_reads self.old }
@@ -115,11 +118,11 @@ impl MemSink {
         ensures calls { IfOk result (λ sink. writes sink ≡ 0) }
         ensures faults { IfOk result (λ sink. write_faults sink ≡ 0) }
     {
-        let bytes = Vec::with_capacity(alloc, room)?;
+        let bytes = vec![in alloc; 0; room]?;
         let fails = fails.to_vec(alloc)?;
         Ok(MemSink {
             bytes,
-            room,
+            filled: 0,
             step,
             fails,
             calls: 0,
@@ -131,41 +134,38 @@ impl MemSink {
     pub fn bytes(&self) -> &[u8]
         ensures { result.now ≡ bytes_held self.now }
     {
-        &self.bytes
+        &self.bytes[..self.filled]
     }
 }
 
 impl Sink for MemSink {
-    ghost use Rattle.dice_base.specs.Memory.{bytes_held, failing_writes, lists_next, next_call, room_of, write_faults, write_step, writes};
+    ghost use Rattle.dice_base.specs.Memory.{bytes_held, failing_writes, next_call, refuses, room_of, write_step, write_faults, writes};
 
     ghost held = { λ s. Some (bytes_held s) };
 
     ghost faults = { write_faults };
 
-    // A write also fails where memory is refused.
     fn write(&mut self, piece: &[u8]) -> Result<usize, Failed>
         ensures bound { WritesAtMost result piece.now }
         ensures some { IfOk result (λ n. 0 < length piece.now → 0 < n) }
         ensures bytes { WriteAppends (Some (bytes_held self.old)) (Some (bytes_held self.new)) result piece.now }
         ensures cause { HasCause (write_faults self.old) (write_faults self.new) result }
-        ensures failed { IfOk result (λ n. lists_next (failing_writes self.old) (writes self.old) ≡ false) }
-        ensures count { IfOk result (λ n. n ≡ min (min (length piece.now) (write_step self.old)) (room_of self.old - length (bytes_held self.old))) }
+        ensures failed { is_err result ≡ refuses self.old piece.now }
+        ensures count { IfOk result (λ n. n ≡ min (min (length piece.now)
+            (room_of self.old - length (bytes_held self.old))) (write_step self.old)) }
         ensures calls { writes self.new ≡ next_call (writes self.old) }
         ensures room { room_of self.new ≡ room_of self.old }
         ensures step { write_step self.new ≡ write_step self.old }
         ensures fails { failing_writes self.new ≡ failing_writes self.old }
     {
         self.calls = self.calls.saturating_add(1);
-        let room = self.room.saturating_sub(self.bytes.len());
-        let count = piece.len().min(self.step).min(room);
-        let refused = count == 0 && !piece.is_empty();
-        if refused
-            || self.fails.contains(&self.calls)
-            || self.bytes.extend_from_slice(&piece[..count]).is_err()
-        {
+        let is_full = self.filled == self.bytes.len() && !piece.is_empty();
+        if self.fails.contains(&self.calls) || is_full {
             self.faults = self.faults.saturating_add(1);
             return Err(Failed);
         }
+        let count = copy_front(piece, &mut self.bytes[self.filled..], self.step);
+        self.filled += count;
         Ok(count)
     }
 }

@@ -12,7 +12,7 @@ pub trait Source {
     /// The bytes that reads will give from here on, where the source tells them.
     ghost left: { Self → Option (List ℕ) };
 
-    /// How often the source has failed: a 64-bit count that never falls.
+    /// How often the source has failed: a 64-bit count that rises at each failed read, and at no other.
     ghost faults: { Self → ℕ };
 
     /// Reads the next bytes into the front of the piece and gives their number, which is 0 only at the end of
@@ -28,7 +28,7 @@ pub trait Sink {
     /// The bytes that were taken, where the sink tells them.
     ghost held: { Self → Option (List ℕ) };
 
-    /// How often the sink has failed: a 64-bit count that never falls.
+    /// How often the sink has failed: a 64-bit count that rises at each failed write, and at no other.
     ghost faults: { Self → ℕ };
 
     /// Takes bytes from the front of the piece and gives their number, at least 1 of a piece that has any. A write

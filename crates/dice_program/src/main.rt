@@ -11,7 +11,7 @@ use dice_base::{NoMemory, StdSink, StdSource};
 use pdp11_machine::Machine;
 use status::Status;
 use std::env::{Env, args};
-use std::io::ErrorKind;
+use std::io::{ErrorKind, writer};
 use std::process::ExitCode;
 use top::dice11;
 
@@ -23,8 +23,8 @@ fn main(rt: HostRuntime) -> ExitCode {
 // Runs the script on standard input, on a new machine.
 fn started(rt: &(impl Env + Input + Print + AllocGlobal)) -> Result<Status, NoMemory> {
     let words = words_of(rt)?;
-    let mut source = StdSource::new(rt.alloc(), rt)?;
-    let mut sink = StdSink::new(rt);
+    let mut source = StdSource::new(rt.alloc(), rt.reader())?;
+    let mut sink = StdSink::new(writer(rt));
     let mut machine = Machine::new(rt.alloc())?;
     Ok(dice11(rt.alloc(), &words, &mut source, &mut sink, &mut machine))
 }

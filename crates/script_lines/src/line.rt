@@ -85,9 +85,11 @@ pub fn next_line<S: Source>(
     line: &mut Vec<u8>,
     room: &mut u32,
 ) -> Result<Got, LineFault>
-    ensures got { IfOk result (λ got. Took got line.new.items room.old room.new (S.left source.old) (S.left source.new)) }
+    ensures got { IfOk result (λ got. Took got line.new.items room.old room.new
+        (S.left source.old) (S.left source.new)) }
     ensures part { IsErrOf result LineFault.SourceFailed → Broken (S.left source.old) (S.left source.new) }
     ensures later { S.faults source.old ≤ S.faults source.new }
+    ensures same { OnOk result (S.faults source.new ≡ S.faults source.old) }
     ensures cause { IsErrOf result LineFault.SourceFailed → Rose (S.faults source.old) (S.faults source.new) }
 {
     line.clear();

@@ -1,4 +1,4 @@
-use Rattle.std.proofs.Common.{arith}
+use Rattle.std.proofs.Common.{◌∙◌}
 use Rattle.script_lines.proofs.Fronts.{past-room, whole-line, kept-short, byte-more}
 use Rattle.script_lines.proofs.line.next_line.Goals as goal
 
@@ -16,5 +16,5 @@ keep-requires g c = kept-short _ _ _ _ _ c.loop-byte.invariant.so_far
 pub loop-byte-preserved : goal.loop-byte-preserved
 loop-byte-preserved g c = record {
   so_far = byte-more _ _ _ _ _ _ _ c.in-Some.byte c.loop-byte.invariant.so_far c.if-room-eq0.false c.if-byte-eq-LINE_FEED.false (rw c.in-Some.is at c.in_ok-byte.ensures.bytes) c.in_ok-keep.ensures;
-  later = omega (arith, c.in_ok-byte.ensures.cause.later, c.loop-byte.invariant.later);
+  same = c.in_ok-byte.ensures.cause.same ∙ c.loop-byte.invariant.same;
 }
