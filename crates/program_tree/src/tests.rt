@@ -2,7 +2,7 @@
 use super::*;
 use dice_base::{Name, NoMemory, Text};
 use pascal_tree::{
-    Access, Block, Decl, DeclKind, Expr, Factor, Prefix, Program as Tree, Stmt, StmtKind, SumExpr,
+    Access, Block, Decl, DeclKind, Expr, Factor, Prefix, Tree, Stmt, StmtKind, SumExpr,
     Term, TypeText,
 };
 use sqlite_items::Items;

@@ -4,7 +4,7 @@ use crate::statements::push_stmt;
 use dice_base::{Name, NoMemory, Text};
 use pascal_semantics::{Operand, SimpleForm, Statement, Sum};
 use pascal_tree::{
-    Access, AddOp, AddPart, Arg, Block, Decl, DeclKind, Expr, Factor, Prefix, Program as Tree,
+    Access, AddOp, AddPart, Arg, Block, Decl, DeclKind, Expr, Factor, Prefix, Tree,
     Stmt, StmtKind, SumExpr, Term, TypeText,
 };
 use program_tree::Program;
