@@ -43,9 +43,10 @@ kind_in_turn (StmtKind-F.With records f) n = (s.With records (f n).0, (f n).1)
 
 -- the statement itself has the first name
 abbrev pub stmt_in_turn : Stmt-F (Numbering StmtKind) (Numbering Arm) (Numbering Stmt) → Numbering Stmt
-stmt_in_turn x n =
-    (roll-Stmt (record { name = record { 0 = n }; label = x.label; kind = (x.kind (n + 1)).0 }),
-    (x.kind (n + 1)).1)
+stmt_in_turn x n = (
+  roll-Stmt (record { name = record { 0 = n }; label = x.label; kind = (x.kind (n + 1)).0 }),
+  (x.kind (n + 1)).1,
+)
 
 -- an arm of a `case` statement is no item and has no name
 abbrev pub arm_in_turn : Arm-F (Numbering StmtKind) (Numbering Arm) (Numbering Stmt) → Numbering Arm
@@ -88,16 +89,17 @@ labels_numbering (Some d) n = (Some (decl_numbering d n).0, n + 1)
 -- a block whose labels have the names from `first` on and whose body those from `last` on; the other parts are given
 abbrev pub block_of_ends :
     Option Decl → Stmt → ℕ → ℕ → List Decl → List Decl → List Decl → List Routine → Block × ℕ
-block_of_ends labels body first last consts types vars routines =
-    (roll-Block (record {
-      labels = (labels_numbering labels first).0;
-      consts = consts;
-      types = types;
-      vars = vars;
-      routines = routines;
-      body = (stmt_numbering body last).0;
-    }),
-    (stmt_numbering body last).1)
+block_of_ends labels body first last consts types vars routines = (
+  roll-Block (record {
+    labels = (labels_numbering labels first).0;
+    consts = consts;
+    types = types;
+    vars = vars;
+    routines = routines;
+    body = (stmt_numbering body last).0;
+  }),
+  (stmt_numbering body last).1,
+)
 
 -- the same with the labels and the body of a block
 abbrev pub block_with_ends : Block → ℕ → ℕ → List Decl → List Decl → List Decl → List Routine → Block × ℕ

@@ -4,7 +4,7 @@ ghost use Rattle.pascal_tree.specs.declared.decl.Block.{out-Block};
 
 use crate::decl_copies::{copy_decl_kind, copy_heading, copy_texts};
 use crate::stmt_copies::copy_stmt;
-use crate::{Block, Decl, Tree, Routine};
+use crate::{Block, Decl, Routine, Tree};
 use dice_base::NoMemory;
 use sqlite_items::Items;
 use std::alloc::Global;

@@ -5,43 +5,11 @@ ghost use Rattle.pascal_tree.specs.Names.{Counts, names_within, program_names, s
 
 use dice_base::{Name, NoMemory, Text, one_more};
 use pascal_tree::{
-    Access, Arg, Arm, Block, Decl, Expr, Routine, Stmt, StmtKind, Tree, copy_access, copy_accesses,
-    copy_args, copy_constants, copy_decl_kind, copy_expr, copy_heading, copy_texts,
+    Access, Arm, Block, Decl, Expr, Routine, Stmt, StmtKind, Tree, copy_accesses, copy_assign,
+    copy_call, copy_constants, copy_decl_kind, copy_expr, copy_heading, copy_texts, make_for,
 };
 use sqlite_items::{Boxed, Items};
 use std::alloc::Global;
-
-fn copy_assign(alloc: Global, access: &Access, value: &Expr) -> Result<StmtKind, NoMemory>
-    ensures { IfOk result (λ r. r ≡ StmtKind.Assign access.now value.now) }
-{
-    let access = copy_access(alloc, access)?;
-    let value = copy_expr(alloc, value)?;
-    Ok(StmtKind::Assign(access, value))
-}
-
-fn copy_call(alloc: Global, ident: &Text, args: &[Arg]) -> Result<StmtKind, NoMemory>
-    ensures { IfOk result (λ r. r ≡ StmtKind.Call ident.now args.now) }
-{
-    let ident = ident.copy(alloc)?;
-    let args = copy_args(alloc, args)?;
-    Ok(StmtKind::Call(ident, args))
-}
-
-fn make_for(
-    alloc: Global,
-    ident: &Text,
-    first: &Expr,
-    down: bool,
-    last: &Expr,
-    body: Boxed<Stmt>,
-) -> Result<StmtKind, NoMemory>
-    ensures { IfOk result (λ r. r ≡ StmtKind.For ident.now first.now down last.now body) }
-{
-    let ident = ident.copy(alloc)?;
-    let first = copy_expr(alloc, first)?;
-    let last = copy_expr(alloc, last)?;
-    Ok(StmtKind::For(ident, first, down, last, body))
-}
 
 #[cycle(number_stmt)]
 #[tactic(auto, unfolding(pascal_tree::specs::Naming::stmt_numbering, pascal_tree::specs::Naming::kind_numbering, pascal_tree::specs::Naming::arm_numbering))]
@@ -301,8 +269,8 @@ fn number_ends(
 ) -> Result<(Block, u32), NoMemory>
     ensures { IfOk result (λ r. r ≡ spec.block_with_ends block.now next last consts types vars routines) }
 {
-    let (body, last) = number_stmt(alloc, &block.body, last)?;
     let (labels, _) = number_labels(alloc, &block.labels, next)?;
+    let (body, last) = number_stmt(alloc, &block.body, last)?;
     let block = Block {
         labels,
         consts,
