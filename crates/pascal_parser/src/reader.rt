@@ -13,7 +13,7 @@ use crate::stmts::stmt_within;
 use dice_base::Token;
 use expression_parser::Cursor;
 use grammar_laws::Stop;
-use pascal_tree::{Tree as Program, Stmt};
+use pascal_tree::{Stmt, Tree as Program};
 use std::alloc::Global;
 
 // The program is at level 1, its body at level 2, so the body's statements have 62 levels of the 64.
