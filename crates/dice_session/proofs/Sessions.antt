@@ -17,7 +17,7 @@ use Rattle.dice_command.specs.Words.{is_text_byte, every, is_empty, word_of, aft
 use Rattle.dice_command.specs.Keyword.{keyword_of}
 use Rattle.dice_command.specs.Command.{Asked, Blank, Bad, Replace, asked, command_of, with_arguments}
 use Rattle.dice_command.specs.declared.command.LineCommand.{LineCommand}
-use Rattle.pascal_tree.specs.declared.program.Program.{Program as Tree}
+use Rattle.pascal_tree.specs.declared.program.Tree.{Tree}
 use Rattle.dice_session.specs.Reading.{Reading, IsReading, Substitute, IsSubstitute}
 use Rattle.dice_session.specs.Progress.{progress_by, progress_after, is_over, IsStartedBy}
 use Rattle.dice_session.specs.declared.progress.Progress.TheVariants as progress

@@ -6,7 +6,7 @@ use Rattle.pdp11_machine.specs.State.{State as MachineState, zero_machine}
 use Rattle.pascal_semantics.specs.State.{State}
 use Rattle.pascal_semantics.specs.declared.form.Statement.{Statement}
 use Rattle.pascal_semantics.specs.Valid.{IsProgram}
-use Rattle.pascal_tree.specs.declared.program.Program.{Program as Tree}
+use Rattle.pascal_tree.specs.declared.program.Tree.{Tree}
 use Rattle.dice_command.specs.Command.{Asked}
 use Rattle.dice_session.specs.World.{World, Mode, Commands, Loading, Over, Command, IsCommand, Reads, reply_of, end_line, statements_of}
 use Rattle.dice_session.specs.Simulates.{StandsFor, IsWellFormed}

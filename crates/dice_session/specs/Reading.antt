@@ -3,10 +3,10 @@ use Rattle.std.specs.Prelude.{◌≡◌, ℕ, ◌<◌, ◌≤◌, true, List, le
 use Rattle.dice_base.specs.declared.token.TokenKind.{TokenKind}
 use Rattle.dice_base.specs.Lexemes.{Lexes}
 use Rattle.script_lines.specs.Front.{longest_text}
-use Rattle.pascal_tree.specs.declared.program.Program.{Program as Tree}
+use Rattle.pascal_tree.specs.declared.program.Tree.{Tree}
 use Rattle.pascal_tree.specs.declared.stmt.Stmt.{Stmt}
 use Rattle.pascal_tree.specs.Programs.{Derives}
-use Rattle.pascal_tree.specs.Naming.{numbered}
+use Rattle.pascal_tree.specs.Naming.{numbered_program}
 use Rattle.pascal_parser.specs.Whole.{DerivesStmt}
 use Rattle.simple_form.specs.Simple.{resolved}
 
@@ -15,7 +15,7 @@ use Rattle.simple_form.specs.Simple.{resolved}
 pub record AreProgram (tokens : List TokenKind) (p : Tree) : Type 0 where
   pub tree : Tree
   pub derives : Derives tree tokens
-  pub named : p ≡ numbered tree
+  pub named : p ≡ numbered_program tree
   pub built : is_some (resolved p) ≡ true
 
 -- the text is this program

@@ -3,10 +3,10 @@ use Rattle.std.specs.Prelude.{◌≡◌, ◌≤◌, true, List, length, Option, 
 use Rattle.std.specs.List.{AllByRecursion}
 use Rattle.pascal_semantics.specs.declared.form.Statement.{Statement}
 use Rattle.pascal_semantics.specs.Valid.{IsForm, AllDiffer, IsFree, program_name}
-use Rattle.pascal_tree.specs.declared.program.Program.{Program as Tree}
+use Rattle.pascal_tree.specs.declared.program.Tree.{Tree}
 use Rattle.pascal_tree.specs.declared.stmt.Stmt.{Stmt}
 use Rattle.pascal_tree.specs.Tokens.{Toks}
-use Rattle.pascal_tree.specs.Naming.{numbered}
+use Rattle.pascal_tree.specs.Naming.{numbered_program}
 use Rattle.simple_form.specs.Simple.{resolved}
 use Rattle.pascal_parser.specs.Whole.{DerivesStmt}
 use Rattle.dice_session.specs.Reading.{Reading, TooLong, NotBuilt, Program, AreProgram, Substitute, NoStatement, OneStatement}
@@ -44,8 +44,8 @@ IsReadingOf tokens (Program p) = AreProgram tokens p
 -- what a tree is, once its items are named
 abbrev pub IsReadingBy : Tree → Reading → Type 0
 IsReadingBy tree TooLong = ⊥
-IsReadingBy tree NotBuilt = resolved (numbered tree) ≡ None
-IsReadingBy tree (Program p) = (p ≡ numbered tree) × (is_some (resolved p) ≡ true)
+IsReadingBy tree NotBuilt = resolved (numbered_program tree) ≡ None
+IsReadingBy tree (Program p) = (p ≡ numbered_program tree) × (is_some (resolved p) ≡ true)
 
 abbrev pub substitute_of : Option Stmt → Substitute
 substitute_of None = NoStatement

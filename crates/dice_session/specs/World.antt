@@ -1,7 +1,7 @@
 -- The world of a session, and what a command does to it: its reply, and the world after it.
 use Rattle.std.specs.Prelude.{◌≡◌, ℕ, ◌+◌, ◌-◌, ◌==◌, nat_lt, Bool, true, false, if◌then◌else◌, List, [], ◌∷◌, ◌++◌, length, codes, bytes_eq, slice_index, Option, Some, None, Result, Ok, Err}
 use Rattle.std.specs.Fmt.{decimal}
-use Rattle.pascal_tree.specs.declared.program.Program.{Program as Tree}
+use Rattle.pascal_tree.specs.declared.program.Tree.{Tree}
 use Rattle.pascal_tree.specs.declared.stmt.Stmt.{Stmt}
 use Rattle.pascal_semantics.specs.declared.form.Statement.{Statement}
 use Rattle.pascal_semantics.specs.Charge.{program_charge, charges_of}

@@ -1,6 +1,6 @@
 //! The draft: its listing, its edits, and how it becomes the present program.
 ghost use Rattle.std.specs.Prelude.{◌≡◌, ◌≤◌, ◌++◌, ℕ, List, length, Some, OnOk};
-ghost use Rattle.pascal_tree.specs.declared.program.Program.{Program as Tree};
+ghost use Rattle.pascal_tree.specs.declared.program.Tree.{Tree};
 ghost use Rattle.simple_form.specs.Simple.{resolved};
 ghost use Rattle.pdp11_machine.specs.State.{State as MachineState};
 ghost use Rattle.dice_command.specs.Command.{Replace};

@@ -10,7 +10,7 @@ use dice_base::{NoMemory, Token};
 use pascal_parser::{ParseFault, parse_program, parse_statement};
 use pascal_scanner::{ScanFault, scan};
 use pascal_semantics::Statement;
-use pascal_tree::{Program as Tree, Stmt};
+use pascal_tree::{Stmt, Tree};
 use program_tree::Program;
 use simple_form::resolve_program;
 use std::alloc::Global;

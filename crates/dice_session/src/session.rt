@@ -2,7 +2,7 @@
 ghost use Rattle.std.specs.Prelude.{◌≡◌, ◌≤◌, ◌++◌, ℕ, List, [], ◌∷◌, length, take, true, false, None, Some, IfOk, OnOk, bytes_eq};
 ghost use Rattle.pdp11_machine.specs.State.{State as MachineState, zero_machine};
 ghost use Rattle.script_lines.specs.Front.{SameFront};
-ghost use Rattle.pascal_tree.specs.declared.program.Program.{Program as Tree};
+ghost use Rattle.pascal_tree.specs.declared.program.Tree.{Tree};
 ghost use Rattle.simple_form.specs.Simple.{resolved};
 ghost use Rattle.pascal_semantics.specs.Valid.{IsProgram};
 ghost use Rattle.dice_command.specs.Command.{asked, Blank, Load, Quit, IsWellRead};

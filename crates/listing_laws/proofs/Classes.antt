@@ -6,7 +6,7 @@ use Rattle.dice_base.specs.declared.token.TokenKind.{TokenKind}
 use Rattle.dice_base.specs.declared.token.TokenKind.TheVariants.{Word, Ident, Number, Str, Sign, Hole}
 use Rattle.pascal_tree.specs.Tokens.{Toks, class_of}
 use Rattle.pascal_tree.specs.Forms.{Form, row, opt, after_sep, list_of, operator, behind_op}
-use Rattle.pascal_tree.specs.Joined.{flat, behind_each, joined, optional}
+use Rattle.pascal_tree.specs.Joined.{flat, behind_each, join, optional_part}
 
 pub word_token : (t : TokenKind) (k : ℕ) → class_of t ≡ 6 * k → t ≡ Word k
 word_token (Word j) k e = ap Word (omega (arith, e))
@@ -52,7 +52,7 @@ pub row_gives : {A : Type 0} (g : A → Toks → Type 0) (f : A → Toks) → Gi
 row_gives g f each [] u r = r
 row_gives g f each (a ∷ xs) u (x, y, e, ga, r) = rw (e, each a x ga, row_gives g f each xs y r) refl
 
-pub opt_gives : {A : Type 0} (g : A → Toks → Type 0) (f : A → Toks) → Gives g f → (x : Option A) (u : Toks) → opt g x tt u → u ≡ optional (option_map f x)
+pub opt_gives : {A : Type 0} (g : A → Toks → Type 0) (f : A → Toks) → Gives g f → (x : Option A) (u : Toks) → opt g x tt u → u ≡ optional_part (option_map f x)
 opt_gives g f each None u h = h
 opt_gives g f each (Some a) u h = each a u h
 
@@ -64,7 +64,7 @@ row_after c s g f is each (a ∷ xs) u (x, y, e, inl (t, v, parts, class, ga), r
 row_after c s g f is each (a ∷ xs) u (x, y, e, inr bad, r) = absurd bad
 
 pub list_gives : {A : Type 0} (c : ℕ) (s : TokenKind) (g : Form A) (f : A → Toks) → IsClassOf c s → Gives (λ a u. g a tt u) f
-    → (xs : List A) (u : Toks) → list_of c g xs tt u → u ≡ joined (s ∷ []) (map f xs)
+    → (xs : List A) (u : Toks) → list_of c g xs tt u → u ≡ join (s ∷ []) (map f xs)
 list_gives c s g f is each xs u (a, w, x, y, e, ga, (more, made, r)) =
     rw (made, e, each a x ga, row_after c s g f is each more y r) refl
 

@@ -20,7 +20,7 @@ use Rattle.pascal_tree.specs.declared.decl.Block.TheFolds.{fold-roll-Block}
 use Rattle.pascal_tree.specs.Tokens.{Toks}
 use Rattle.pascal_tree.specs.Statements.{no_name, make_stmt}
 use Rattle.pascal_tree.specs.Programs.{make_block, make_program}
-use Rattle.pascal_tree.specs.Joined.{flat, behind_each, joined}
+use Rattle.pascal_tree.specs.Joined.{flat, behind_each, join}
 use Rattle.dice_base.specs.Symbols.{end_word, var_word, semicolon_sign, period_sign, begin_word, becomes_sign, program_word}
 use Rattle.pascal_tree.specs.ExprTokens.{expr_tokens, access_tokens, args_tokens}
 use Rattle.pascal_tree.specs.DeclTokens.{in_type, in_field, type_tokens, decl_tokens}
@@ -77,7 +77,7 @@ more-tokens level (x ∷ xs) =
     ap (λ (ts : Toks). semicolon_sign ∷ ts)
     (tokens-append (child (stmt_events x) level) (more (map child (map stmt_events xs)) level) ∙ rw (tokens-child (stmt_events x) level, more-tokens level xs) refl)
 
-sequence-tokens : (level : ℕ) (xs : List Stmt) → tokens_of (sequence (map child (map stmt_events xs)) level) ≡ joined (semicolon_sign ∷ []) (map (stmt_tokens (level + 1)) xs)
+sequence-tokens : (level : ℕ) (xs : List Stmt) → tokens_of (sequence (map child (map stmt_events xs)) level) ≡ join (semicolon_sign ∷ []) (map (stmt_tokens (level + 1)) xs)
 sequence-tokens level [] = refl
 sequence-tokens level (x ∷ xs) =
     tokens-append (child (stmt_events x) level) (more (map child (map stmt_events xs)) level) ∙ rw (tokens-child (stmt_events x) level, more-tokens level xs) refl
@@ -86,7 +86,7 @@ compound-opened : (level : ℕ) (xs : List Stmt) → kind_tokens level (s.Compou
 unfolding kind_events stmt_events
 compound-opened level xs = ap (λ (k : StmtKind). kind_tokens level k) (sym (rolls-Compound xs)) ∙ ap (λ (f : Laid). tokens_of (f level)) (fold-roll-StmtKind Laid Laid Laid in_kind in_arm in_stmt (StmtKind-F.Compound xs))
 
-pub compound-made : (level : ℕ) (xs : List Stmt) → kind_tokens level (s.Compound xs) ≡ begin_word ∷ (joined (semicolon_sign ∷ []) (map (stmt_tokens (level + 1)) xs) ++ end_word ∷ [])
+pub compound-made : (level : ℕ) (xs : List Stmt) → kind_tokens level (s.Compound xs) ≡ begin_word ∷ (join (semicolon_sign ∷ []) (map (stmt_tokens (level + 1)) xs) ++ end_word ∷ [])
 compound-made level xs =
     compound-opened level xs
     ∙ ap (λ (ts : Toks). begin_word ∷ ts) (tokens-append (sequence (map child (map stmt_events xs)) level) (Token end_word ∷ []) ∙ rw (sequence-tokens level xs) refl)

@@ -8,13 +8,13 @@ use Rattle.pascal_tree.specs.declared.stmt.Stmt.{Stmt, out-Stmt, map-Stmt}
 use Rattle.pascal_tree.specs.declared.stmt.StmtKind.{StmtKind}
 use Rattle.pascal_tree.specs.declared.stmt.Arm.{Arm}
 use Rattle.pascal_tree.specs.declared.stmt.StmtKind.TheFolds.{fold_out-Stmt}
-use Rattle.pascal_tree.specs.declared.program.Program.{Program}
+use Rattle.pascal_tree.specs.declared.program.Tree.{Tree}
 use Rattle.tree_text.specs.Spelling.{spelling_of}
 use Rattle.pascal_print.specs.declared.event.Event.{Event}
 use Rattle.pascal_print.specs.declared.event.Event.TheVariants.{Item, Part, Back, Token}
 use Rattle.pascal_print.specs.declared.event.Line.{Line}
 use Rattle.pascal_print.specs.Events.{Laid, tokens_of, in_kind, in_arm, in_stmt, stmt_events, kind_events, arm_events, program_events, program_tokens, statement_tokens}
-use Rattle.pascal_print.specs.Listing.{closes, begins, on_line, rest_of, lines_of, blanks, spelled_behind, spelled, plain_line, text_of_lines, listing, statement_listing}
+use Rattle.pascal_print.specs.Listing.{closes, begins, on_line, rest_of, listing_lines, blanks, spellings_after_blanks, spellings_of, plain_line, text_of_lines, listing, statement_listing}
 use Rattle.listing_laws.proofs.Gaps.{OpensGap, Spaced, nothing, gap, puts}
 use Rattle.listing_laws.proofs.Spellings.{IsSpelt}
 
@@ -27,21 +27,21 @@ blanks-spaced : (n : ℕ) (text : List ℕ) (us : Toks) → Spaced text us → S
 blanks-spaced zero text us s = s
 blanks-spaced (suc n) text us s = gap 32 (blanks n ++ text) us refl (blanks-spaced n text us s)
 
-behind-opens : (ts : Toks) (text : List ℕ) → OpensGap (spelled_behind ts ++ 10 ∷ text)
+behind-opens : (ts : Toks) (text : List ℕ) → OpensGap (spellings_after_blanks ts ++ 10 ∷ text)
 behind-opens [] text = refl
 behind-opens (t ∷ ts) text = refl
 
-behind-spaced : (ts : Toks) (text : List ℕ) (us : Toks) → AreSpelt ts → Spaced text us → Spaced (spelled_behind ts ++ 10 ∷ text) (ts ++ us)
+behind-spaced : (ts : Toks) (text : List ℕ) (us : Toks) → AreSpelt ts → Spaced text us → Spaced (spellings_after_blanks ts ++ 10 ∷ text) (ts ++ us)
 behind-spaced [] text us each s = gap 10 text us refl s
 behind-spaced (t ∷ ts) text us each s =
-    subst (λ (v : List ℕ). Spaced (32 ∷ v) (t ∷ (ts ++ us))) (sym (append_assoc (spelling_of t) (spelled_behind ts) (10 ∷ text)))
-    (gap 32 (spelling_of t ++ (spelled_behind ts ++ 10 ∷ text)) (t ∷ (ts ++ us)) refl
-    (puts (spelling_of t) (spelled_behind ts ++ 10 ∷ text) t (ts ++ us) each.0 (behind-opens ts text) (behind-spaced ts text us each.1 s)))
+    subst (λ (v : List ℕ). Spaced (32 ∷ v) (t ∷ (ts ++ us))) (sym (append_assoc (spelling_of t) (spellings_after_blanks ts) (10 ∷ text)))
+    (gap 32 (spelling_of t ++ (spellings_after_blanks ts ++ 10 ∷ text)) (t ∷ (ts ++ us)) refl
+    (puts (spelling_of t) (spellings_after_blanks ts ++ 10 ∷ text) t (ts ++ us) each.0 (behind-opens ts text) (behind-spaced ts text us each.1 s)))
 
-spelled-spaced : (t : TokenKind) (ts : Toks) (text : List ℕ) (us : Toks) → AreSpelt (t ∷ ts) → Spaced text us → Spaced (spelled (t ∷ ts) ++ 10 ∷ text) (t ∷ (ts ++ us))
+spelled-spaced : (t : TokenKind) (ts : Toks) (text : List ℕ) (us : Toks) → AreSpelt (t ∷ ts) → Spaced text us → Spaced (spellings_of (t ∷ ts) ++ 10 ∷ text) (t ∷ (ts ++ us))
 spelled-spaced t ts text us each s =
-    subst (λ (v : List ℕ). Spaced v (t ∷ (ts ++ us))) (sym (append_assoc (spelling_of t) (spelled_behind ts) (10 ∷ text)))
-    (puts (spelling_of t) (spelled_behind ts ++ 10 ∷ text) t (ts ++ us) each.0 (behind-opens ts text) (behind-spaced ts text us each.1 s))
+    subst (λ (v : List ℕ). Spaced v (t ∷ (ts ++ us))) (sym (append_assoc (spelling_of t) (spellings_after_blanks ts) (10 ∷ text)))
+    (puts (spelling_of t) (spellings_after_blanks ts ++ 10 ∷ text) t (ts ++ us) each.0 (behind-opens ts text) (behind-spaced ts text us each.1 s))
 
 line-parts : (a b text : List ℕ) → ((a ++ b) ++ 10 ∷ []) ++ text ≡ a ++ (b ++ 10 ∷ text)
 line-parts a b text = append_assoc (a ++ b) (10 ∷ []) text ∙ append_assoc a b (10 ∷ text)
@@ -49,8 +49,8 @@ line-parts a b text = append_assoc (a ++ b) (10 ∷ []) text ∙ append_assoc a 
 line-spaced : (level : ℕ) (ts : Toks) (text : List ℕ) (us : Toks) → AreSpelt ts → Spaced text us → Spaced (plain_line level ts ++ text) (ts ++ us)
 line-spaced level [] text us each s = s
 line-spaced level (t ∷ ts) text us each s =
-    subst (λ (v : List ℕ). Spaced v (t ∷ (ts ++ us))) (sym (line-parts (blanks (2 * level)) (spelled (t ∷ ts)) text))
-    (blanks-spaced (2 * level) (spelled (t ∷ ts) ++ 10 ∷ text) (t ∷ (ts ++ us)) (spelled-spaced t ts text us each s))
+    subst (λ (v : List ℕ). Spaced v (t ∷ (ts ++ us))) (sym (line-parts (blanks (2 * level)) (spellings_of (t ∷ ts)) text))
+    (blanks-spaced (2 * level) (spellings_of (t ∷ ts) ++ 10 ∷ text) (t ∷ (ts ++ us)) (spelled-spaced t ts text us each s))
 
 -- ---- all lines
 
@@ -88,24 +88,24 @@ rest-tokens (Token t ∷ es) (Some level) = go (closes t) (rest-tokens es None) 
   go true fresh known = ap (λ (ts : Toks). t ∷ ts) known
   go false fresh known = ap (λ (ts : Toks). t ∷ ts) fresh
 
-lines-tokens : (p : Program) → tokens_in (lines_of (program_events p)) ≡ program_tokens p
+lines-tokens : (p : Tree) → tokens_in (listing_lines (program_events p)) ≡ program_tokens p
 lines-tokens p = rest-tokens (program_events p) None
 
 -- where each token is read again as it is spelt
-pub listing-spaced : (p : Program) → AllByRecursion IsSpelt (program_tokens p) → Spaced (listing false p) (program_tokens p)
+pub listing-spaced : (p : Tree) → AllByRecursion IsSpelt (program_tokens p) → Spaced (listing false p) (program_tokens p)
 listing-spaced p each =
     subst (λ (ts : Toks). Spaced (listing false p) ts) (lines-tokens p)
-    (lines-spaced (lines_of (program_events p)) (subst (λ (ts : Toks). AllByRecursion IsSpelt ts) (sym (lines-tokens p)) each))
+    (lines-spaced (listing_lines (program_events p)) (subst (λ (ts : Toks). AllByRecursion IsSpelt ts) (sym (lines-tokens p)) each))
 
 -- ---- the same of a statement
 
-statement-tokens : (x : Stmt) → tokens_in (lines_of (stmt_events x 0)) ≡ statement_tokens x
+statement-tokens : (x : Stmt) → tokens_in (listing_lines (stmt_events x 0)) ≡ statement_tokens x
 unfolding stmt_events kind_events arm_events
 statement-tokens x =
-    subst (λ (f : Laid). tokens_in (lines_of (f 0)) ≡ tokens_of (f 0)) (sym (fold_out-Stmt Laid Laid Laid in_kind in_arm in_stmt x))
+    subst (λ (f : Laid). tokens_in (listing_lines (f 0)) ≡ tokens_of (f 0)) (sym (fold_out-Stmt Laid Laid Laid in_kind in_arm in_stmt x))
     (rest-tokens (in_stmt (map-Stmt StmtKind Arm Stmt Laid Laid Laid kind_events arm_events stmt_events (out-Stmt x)) 0) None)
 
 pub statement-spaced : (x : Stmt) → AllByRecursion IsSpelt (statement_tokens x) → Spaced (statement_listing x) (statement_tokens x)
 statement-spaced x each =
     subst (λ (ts : Toks). Spaced (statement_listing x) ts) (statement-tokens x)
-    (lines-spaced (lines_of (stmt_events x 0)) (subst (λ (ts : Toks). AllByRecursion IsSpelt ts) (sym (statement-tokens x)) each))
+    (lines-spaced (listing_lines (stmt_events x 0)) (subst (λ (ts : Toks). AllByRecursion IsSpelt ts) (sym (statement-tokens x)) each))

@@ -16,76 +16,79 @@ use Rattle.pascal_tree.specs.declared.decl.Decl.{Decl}
 use Rattle.pascal_tree.specs.declared.decl.Block.{Block, roll-Block}
 use Rattle.pascal_tree.specs.declared.decl.Routine.{Routine}
 use Rattle.pascal_tree.specs.declared.decl.Block.TheFolds.{fold-roll-Block}
-use Rattle.pascal_tree.specs.declared.program.Program.{Program}
+use Rattle.pascal_tree.specs.declared.program.Tree.{Tree}
 use Rattle.pascal_tree.specs.Tokens.{Toks}
 use Rattle.pascal_tree.specs.Forms.{Form, row, after_sep, list_of}
 use Rattle.pascal_tree.specs.Expressions.{expr_at}
 use Rattle.pascal_tree.specs.Statements.{no_name, make_stmt, compound_form, kind_form, stmt_form, stmt_at}
 use Rattle.pascal_tree.specs.Programs.{make_block, make_program, var_form, vars_form, block_form, program_form, Derives}
-use Rattle.pascal_tree.specs.Naming.{Numbering, in_turn, in_kind, in_arm, in_stmt, in_block, in_routine, stmt_numbered, kind_numbered, decls_numbered, block_numbered, routine_numbered, numbered}
-use Rattle.tree_names.specs.Readings.{IsReadingOf}
+use Rattle.pascal_tree.specs.Naming.{Numbering, list_numbering, kind_in_turn, arm_in_turn, stmt_in_turn, block_in_turn, routine_in_turn, stmt_numbering, kind_numbering, decls_numbering, block_numbering, routine_numbering, numbered_program}
 use Rattle.pascal_print.specs.Listing.{listing}
-use Rattle.listing_laws.specs.Unnamed.{unnamed_stmt, unnamed_kind, unnamed_decl, unnamed_block, unnamed}
+use Rattle.listing_laws.specs.Unnamed.{unnamed_stmt, unnamed_kind, unnamed_decl, unnamed_block, unnamed_program}
 use Rattle.listing_laws.proofs.ReadsBack.{reads_back}
 use Rattle.listing_laws.proofs.Unnamed.{kind-without, stmt-without, block-without}
 
+-- the program, its items named in the order of the text, is a tree that derives the tokens
+abbrev pub IsNumberedReading : Tree → Toks → Type 0
+IsNumberedReading p ts = (tree : Tree) × Derives tree ts × (p ≡ numbered_program tree)
+
 -- named from any number on, and without these names again, it is as it was
 abbrev KindReturns : StmtKind → Type 0
-KindReturns k = (n : ℕ) → unnamed_kind (kind_numbered k n).0 ≡ k
+KindReturns k = (n : ℕ) → unnamed_kind (kind_numbering k n).0 ≡ k
 
 abbrev Returns : Stmt → Type 0
-Returns x = (n : ℕ) → unnamed_stmt (stmt_numbered x n).0 ≡ x
+Returns x = (n : ℕ) → unnamed_stmt (stmt_numbering x n).0 ≡ x
 
 abbrev DeclReturns : Decl → Type 0
 DeclReturns d = unnamed_decl d ≡ d
 
 -- ---- statements
 
-stmt-numbered : (k : StmtKind) (n : ℕ) → (stmt_numbered (make_stmt k) n).0 ≡ roll-Stmt (record { name = record { 0 = n }; label = None; kind = (kind_numbered k (n + 1)).0 })
-unfolding stmt_numbered kind_numbered
+stmt-numbered : (k : StmtKind) (n : ℕ) → (stmt_numbering (make_stmt k) n).0 ≡ roll-Stmt (record { name = record { 0 = n }; label = None; kind = (kind_numbering k (n + 1)).0 })
+unfolding stmt_numbering kind_numbering
 stmt-numbered k n =
-    ap (λ (f : Numbering Stmt). (f n).0) (fold-roll-Stmt (Numbering StmtKind) (Numbering Arm) (Numbering Stmt) in_kind in_arm in_stmt (record { name = no_name; label = None; kind = k }))
+    ap (λ (f : Numbering Stmt). (f n).0) (fold-roll-Stmt (Numbering StmtKind) (Numbering Arm) (Numbering Stmt) kind_in_turn arm_in_turn stmt_in_turn (record { name = no_name; label = None; kind = k }))
 
 stmt-returns : (k : StmtKind) → KindReturns k → Returns (make_stmt k)
 stmt-returns k h n =
-    ap unnamed_stmt (stmt-numbered k n) ∙ stmt-without (record { name = record { 0 = n }; label = None; kind = (kind_numbered k (n + 1)).0 }) ∙ ap make_stmt (h (n + 1))
+    ap unnamed_stmt (stmt-numbered k n) ∙ stmt-without (record { name = record { 0 = n }; label = None; kind = (kind_numbering k (n + 1)).0 }) ∙ ap make_stmt (h (n + 1))
 
 empty-returns : KindReturns s.Empty
-unfolding kind_numbered
+unfolding kind_numbering
 empty-returns n =
-    ap (λ (k : StmtKind). unnamed_kind (kind_numbered k n).0) (sym rolls-Empty)
-    ∙ ap (λ (f : Numbering StmtKind). unnamed_kind (f n).0) (fold-roll-StmtKind (Numbering StmtKind) (Numbering Arm) (Numbering Stmt) in_kind in_arm in_stmt StmtKind-F.Empty)
+    ap (λ (k : StmtKind). unnamed_kind (kind_numbering k n).0) (sym rolls-Empty)
+    ∙ ap (λ (f : Numbering StmtKind). unnamed_kind (f n).0) (fold-roll-StmtKind (Numbering StmtKind) (Numbering Arm) (Numbering Stmt) kind_in_turn arm_in_turn stmt_in_turn StmtKind-F.Empty)
     ∙ ap unnamed_kind (sym rolls-Empty) ∙ kind-without StmtKind-F.Empty ∙ rolls-Empty
 
 assign-returns : (a : Access) (e : Expr) → KindReturns (s.Assign a e)
-unfolding kind_numbered
+unfolding kind_numbering
 assign-returns a e n =
-    ap (λ (k : StmtKind). unnamed_kind (kind_numbered k n).0) (sym (rolls-Assign a e))
-    ∙ ap (λ (f : Numbering StmtKind). unnamed_kind (f n).0) (fold-roll-StmtKind (Numbering StmtKind) (Numbering Arm) (Numbering Stmt) in_kind in_arm in_stmt (StmtKind-F.Assign a e))
+    ap (λ (k : StmtKind). unnamed_kind (kind_numbering k n).0) (sym (rolls-Assign a e))
+    ∙ ap (λ (f : Numbering StmtKind). unnamed_kind (f n).0) (fold-roll-StmtKind (Numbering StmtKind) (Numbering Arm) (Numbering Stmt) kind_in_turn arm_in_turn stmt_in_turn (StmtKind-F.Assign a e))
     ∙ ap unnamed_kind (sym (rolls-Assign a e)) ∙ kind-without (StmtKind-F.Assign a e) ∙ rolls-Assign a e
 
 call-returns : (x : List ℕ) (args : List Arg) → KindReturns (s.Call x args)
-unfolding kind_numbered
+unfolding kind_numbering
 call-returns x args n =
-    ap (λ (k : StmtKind). unnamed_kind (kind_numbered k n).0) (sym (rolls-Call x args))
-    ∙ ap (λ (f : Numbering StmtKind). unnamed_kind (f n).0) (fold-roll-StmtKind (Numbering StmtKind) (Numbering Arm) (Numbering Stmt) in_kind in_arm in_stmt (StmtKind-F.Call x args))
+    ap (λ (k : StmtKind). unnamed_kind (kind_numbering k n).0) (sym (rolls-Call x args))
+    ∙ ap (λ (f : Numbering StmtKind). unnamed_kind (f n).0) (fold-roll-StmtKind (Numbering StmtKind) (Numbering Arm) (Numbering Stmt) kind_in_turn arm_in_turn stmt_in_turn (StmtKind-F.Call x args))
     ∙ ap unnamed_kind (sym (rolls-Call x args)) ∙ kind-without (StmtKind-F.Call x args) ∙ rolls-Call x args
 
-turn-returns : (xs : List Stmt) → AllByRecursion Returns xs → (n : ℕ) → map unnamed_stmt (in_turn (map stmt_numbered xs) n).0 ≡ xs
+turn-returns : (xs : List Stmt) → AllByRecursion Returns xs → (n : ℕ) → map unnamed_stmt (list_numbering (map stmt_numbering xs) n).0 ≡ xs
 turn-returns [] each n = refl
-turn-returns (x ∷ xs) each n = rw (each.0 n, turn-returns xs each.1 (stmt_numbered x n).1) refl
+turn-returns (x ∷ xs) each n = rw (each.0 n, turn-returns xs each.1 (stmt_numbering x n).1) refl
 
-compound-numbered : (xs : List Stmt) (n : ℕ) → (kind_numbered (s.Compound xs) n).0 ≡ s.Compound (in_turn (map stmt_numbered xs) n).0
-unfolding kind_numbered stmt_numbered
+compound-numbered : (xs : List Stmt) (n : ℕ) → (kind_numbering (s.Compound xs) n).0 ≡ s.Compound (list_numbering (map stmt_numbering xs) n).0
+unfolding kind_numbering stmt_numbering
 compound-numbered xs n =
-    ap (λ (k : StmtKind). (kind_numbered k n).0) (sym (rolls-Compound xs))
-    ∙ ap (λ (f : Numbering StmtKind). (f n).0) (fold-roll-StmtKind (Numbering StmtKind) (Numbering Arm) (Numbering Stmt) in_kind in_arm in_stmt (StmtKind-F.Compound xs))
+    ap (λ (k : StmtKind). (kind_numbering k n).0) (sym (rolls-Compound xs))
+    ∙ ap (λ (f : Numbering StmtKind). (f n).0) (fold-roll-StmtKind (Numbering StmtKind) (Numbering Arm) (Numbering Stmt) kind_in_turn arm_in_turn stmt_in_turn (StmtKind-F.Compound xs))
 
 compound-without : (xs : List Stmt) → unnamed_kind (s.Compound xs) ≡ s.Compound (map unnamed_stmt xs)
 compound-without xs = ap unnamed_kind (sym (rolls-Compound xs)) ∙ kind-without (StmtKind-F.Compound xs) ∙ rolls-Compound (map unnamed_stmt xs)
 
 compound-returns : (xs : List Stmt) → AllByRecursion Returns xs → KindReturns (s.Compound xs)
-compound-returns xs each n = ap unnamed_kind (compound-numbered xs n) ∙ compound-without (in_turn (map stmt_numbered xs) n).0 ∙ ap s.Compound (turn-returns xs each n)
+compound-returns xs each n = ap unnamed_kind (compound-numbered xs n) ∙ compound-without (list_numbering (map stmt_numbering xs) n).0 ∙ ap s.Compound (turn-returns xs each n)
 
 -- ---- what a form derives
 
@@ -118,7 +121,7 @@ stmt-derived (suc d) x u h = stmt_returns (stmt_at d) (stmt-derived d) (expr_at 
 
 -- ---- declarations, blocks and programs
 
-vars-return : (ds : List Decl) → AllByRecursion DeclReturns ds → (n : ℕ) → map unnamed_decl (decls_numbered ds n).0 ≡ ds
+vars-return : (ds : List Decl) → AllByRecursion DeclReturns ds → (n : ℕ) → map unnamed_decl (decls_numbering ds n).0 ≡ ds
 vars-return [] each n = refl
 vars-return (d ∷ ds) each n = rw (vars-return ds each.1 (n + 1)) (ap (λ (x : Decl). x ∷ ds) each.0)
 
@@ -134,39 +137,40 @@ vars_return ds u (inl (t, v, e, is, (d, w, y, z, e2, one, (more, w2, y2, z2, e3,
     subst (λ (xs : List Decl). AllByRecursion DeclReturns xs) (sym made) (decl_returns d y one, row_decls more y2 row)
 vars_return ds u (inr (made, flag, rest)) = subst (λ (xs : List Decl). AllByRecursion DeclReturns xs) (sym made) tt
 
-block-numbered : (vars : List Decl) (k : StmtKind) (n : ℕ) → (block_numbered (make_block vars k) n).0
-    ≡ roll-Block (record { labels = None; consts = []; types = []; vars = (decls_numbered vars n).0; routines = []; body = (stmt_numbered (make_stmt k) (decls_numbered vars n).1).0 })
-unfolding block_numbered routine_numbered
+block-numbered : (vars : List Decl) (k : StmtKind) (n : ℕ) → (block_numbering (make_block vars k) n).0
+    ≡ roll-Block (record { labels = None; consts = []; types = []; vars = (decls_numbering vars n).0; routines = []; body = (stmt_numbering (make_stmt k) (decls_numbering vars n).1).0 })
+unfolding block_numbering routine_numbering
 block-numbered vars k n =
     ap (λ (f : Numbering Block). (f n).0)
-    (fold-roll-Block (Numbering Block) (Numbering Routine) in_block in_routine (record { labels = None; consts = []; types = []; vars = vars; routines = []; body = make_stmt k }))
+    (fold-roll-Block (Numbering Block) (Numbering Routine) block_in_turn routine_in_turn (record { labels = None; consts = []; types = []; vars = vars; routines = []; body = make_stmt k }))
 
 abbrev block_with : List Decl → Stmt → Block
 block_with vars body = roll-Block (record { labels = None; consts = []; types = []; vars = vars; routines = []; body = body })
 
-block-returns : (vars : List Decl) (k : StmtKind) → AllByRecursion DeclReturns vars → KindReturns k → (n : ℕ) → unnamed_block (block_numbered (make_block vars k) n).0 ≡ make_block vars k
+block-returns : (vars : List Decl) (k : StmtKind) → AllByRecursion DeclReturns vars → KindReturns k → (n : ℕ) → unnamed_block (block_numbering (make_block vars k) n).0 ≡ make_block vars k
 block-returns vars k each h n =
-    let m : ℕ = (decls_numbered vars n).1 in
+    let m : ℕ = (decls_numbering vars n).1 in
     ap unnamed_block (block-numbered vars k n)
-    ∙ block-without (record { labels = None; consts = []; types = []; vars = (decls_numbered vars n).0; routines = []; body = (stmt_numbered (make_stmt k) m).0 })
-    ∙ ap (λ (ds : List Decl). block_with ds (unnamed_stmt (stmt_numbered (make_stmt k) m).0)) (vars-return vars each n)
+    ∙ block-without (record { labels = None; consts = []; types = []; vars = (decls_numbering vars n).0; routines = []; body = (stmt_numbering (make_stmt k) m).0 })
+    ∙ ap (λ (ds : List Decl). block_with ds (unnamed_stmt (stmt_numbering (make_stmt k) m).0)) (vars-return vars each n)
     ∙ ap (λ (x : Stmt). block_with vars x) (stmt-returns k h m)
 
-block_returns : (b : Block) (u : Toks) → block_form (stmt_at 62) b tt u → unnamed_block (block_numbered b 2).0 ≡ b
+block_returns : (b : Block) (u : Toks) → block_form (stmt_at 62) b tt u → unnamed_block (block_numbering b 2).0 ≡ b
 block_returns b u (vars, w, y, z, e, vx, (k, w2, y2, z2, e2, kx, (made, flag, rest))) =
-    subst (λ (c : Block). unnamed_block (block_numbered c 2).0 ≡ c) (sym made) (block-returns vars k (vars_return vars y vx) (compound_returns (stmt_at 62) (stmt-derived 62) k y2 kx) 2)
+    subst (λ (c : Block). unnamed_block (block_numbering c 2).0 ≡ c) (sym made) (block-returns vars k (vars_return vars y vx) (compound_returns (stmt_at 62) (stmt-derived 62) k y2 kx) 2)
 
-program_returns : (p : Program) (u : Toks) → program_form (stmt_at 62) p tt u → unnamed (numbered p) ≡ p
+program_returns : (p : Tree) (u : Toks) → program_form (stmt_at 62) p tt u → unnamed_program (numbered_program p) ≡ p
 program_returns p u (t, v, e, is, (x, w, y, z, e2, name, (r, z2, e3, semicolon, (b, w2, y2, z3, e4, bx, (q, z4, e5, period, (made, flag, rest)))))) =
-    subst (λ (c : Program). unnamed (numbered c) ≡ c) (sym made) (ap (make_program x) (block_returns b y2 bx))
+    subst (λ (c : Tree). unnamed_program (numbered_program c) ≡ c) (sym made) (ap (make_program x) (block_returns b y2 bx))
 
 -- a program that was read derives its tokens, names aside
-pub reading-derives : (p : Program) (ts : Toks) → IsReadingOf p ts → Derives (unnamed p) ts
-reading-derives p ts (tree, derives, is) = subst (λ (q : Program). Derives q ts) (sym (ap unnamed is ∙ program_returns tree ts derives)) derives
+pub reading-derives : (p : Tree) (ts : Toks) → IsNumberedReading p ts → Derives (unnamed_program p) ts
+reading-derives p ts (tree, derives, is) = subst (λ (q : Tree). Derives q ts) (sym (ap unnamed_program is ∙ program_returns tree ts derives)) derives
 
 -- the listing of a program that was read is read as this program, with the same names
-pub read-again : (p q : Program) (source : List ℕ) (ts us : Toks) → Lexes source ts → IsReadingOf p ts → Lexes (listing false p) us → IsReadingOf q us → q ≡ p
+pub read-again : (p q : Tree) (source : List ℕ) (ts us : Toks)
+    → Lexes source ts → IsNumberedReading p ts → Lexes (listing false p) us → IsNumberedReading q us → q ≡ p
 read-again p q source ts us l (tree, derives, is) m (other, d, made) =
-    let bare : unnamed p ≡ tree = ap unnamed is ∙ program_returns tree ts derives in
-    let text = reads_back p source ts l (subst (λ (r : Program). Derives r ts) (sym bare) derives) in
-    made ∙ ap numbered (text.only us other m d ∙ bare) ∙ sym is
+    let bare : unnamed_program p ≡ tree = ap unnamed_program is ∙ program_returns tree ts derives in
+    let text = reads_back p source ts l (subst (λ (r : Tree). Derives r ts) (sym bare) derives) in
+    made ∙ ap numbered_program (text.only us other m d ∙ bare) ∙ sym is

@@ -6,14 +6,14 @@ use Rattle.dice_base.specs.declared.token.TokenKind.TheVariants.{Ident}
 use Rattle.pascal_tree.specs.declared.expr.Expr.{Expr}
 use Rattle.pascal_tree.specs.declared.expr.Arg.{Arg}
 use Rattle.pascal_tree.specs.declared.stmt.Stmt.{Stmt}
-use Rattle.pascal_tree.specs.declared.program.Program.{Program}
+use Rattle.pascal_tree.specs.declared.program.Tree.{Tree}
 use Rattle.pascal_tree.specs.Tokens.{Toks}
 use Rattle.pascal_tree.specs.Classes.{comma_class, semicolon_class}
 use Rattle.pascal_tree.specs.Forms.{Form, list_of, named}
 use Rattle.pascal_tree.specs.Expressions.{expr_at}
 use Rattle.pascal_tree.specs.Statements.{width_form, arg_form, args_form, compound_form, kind_form, stmt_form, stmt_at}
 use Rattle.pascal_tree.specs.Programs.{var_form, vars_form, block_form, program_form, Derives}
-use Rattle.pascal_tree.specs.Joined.{behind}
+use Rattle.pascal_tree.specs.Joined.{optional_part_after}
 use Rattle.dice_base.specs.Symbols as symbol
 use Rattle.pascal_tree.specs.ExprTokens.{expr_tokens, arg_tokens, args_tokens}
 use Rattle.pascal_tree.specs.DeclTokens.{ident_tokens, idents_tokens, decl_tokens}
@@ -26,7 +26,7 @@ use Rattle.listing_laws.proofs.Events.{stmt_tokens, kind_tokens, stmt-made, empt
 -- ---- arguments
 
 module _ (A : Form Expr) (inner : Derived A expr_tokens) where
-  width-tokens : Derived (width_form A) (λ width. behind symbol.colon_sign (option_map expr_tokens width))
+  width-tokens : Derived (width_form A) (λ width. optional_part_after symbol.colon_sign (option_map expr_tokens width))
   width-tokens a u (inl (t, v, e, is, (x, w, y, z, e2, ex, (made, flag, rest)))) = rw (made, e, sign_token t 17 is, e2, rest, append-nil y, inner x y ex) refl
   width-tokens a u (inr (made, flag, rest)) = rw (made, rest) refl
 
@@ -96,5 +96,5 @@ module _ (S : Form Stmt) (inner : (level : ℕ) → Derived S (stmt_tokens level
       rw (made, program-made x b, e, word_token t 24 is, e2, name, e3, sign_token s 16 semicolon, e4, e5, sign_token r 14 period, rest, block-tokens 0 b y2 bx) refl
 
 -- what a program derives is its tokens
-pub program-tokens : (p : Program) (ts : Toks) → Derives p ts → ts ≡ program_tokens p
+pub program-tokens : (p : Tree) (ts : Toks) → Derives p ts → ts ≡ program_tokens p
 program-tokens p ts h = program-tokens_in (stmt_at 62) (stmt-tokens 62) p ts h

@@ -5,7 +5,7 @@ use Rattle.std.specs.List.{AllByRecursion}
 use Rattle.dice_base.specs.declared.fault.NoMemory.{NoMemory}
 use Rattle.dice_base.specs.Lexemes.{Lexes}
 use Rattle.pascal_tree.specs.declared.stmt.Stmt.{Stmt}
-use Rattle.pascal_tree.specs.declared.program.Program.{Program}
+use Rattle.pascal_tree.specs.declared.program.Tree.{Tree}
 use Rattle.pascal_tree.specs.Tokens.{Toks}
 use Rattle.pascal_tree.specs.Statements.{stmt_at}
 use Rattle.pascal_tree.specs.Programs.{Derives}
@@ -16,7 +16,7 @@ use Rattle.grammar_laws.proofs.ProgramLaws.{program_only}
 use Rattle.pascal_scanner.proofs.Onward.{Lexes-one}
 use Rattle.pascal_print.specs.Events.{program_tokens, statement_tokens}
 use Rattle.pascal_print.specs.Listing.{listing, statement_listing}
-use Rattle.listing_laws.specs.Unnamed.{unnamed_stmt, unnamed}
+use Rattle.listing_laws.specs.Unnamed.{unnamed_stmt, unnamed_program}
 use Rattle.listing_laws.specs.ReadsBack.{ReadsBack, StatementReadsBack}
 use Rattle.listing_laws.proofs.Gaps.{spaced-lexes}
 use Rattle.listing_laws.proofs.Spellings.{IsSpelt, lexes-spelt}
@@ -24,23 +24,23 @@ use Rattle.listing_laws.proofs.Layouts.{listing-spaced, statement-spaced}
 use Rattle.listing_laws.proofs.ProgramTokens.{stmt-tokens, program-tokens}
 use Rattle.listing_laws.proofs.Unnamed.{stmt-tokens-unnamed, program-tokens-unnamed}
 
-derives-one : (ts : Toks) (p q : Program) → Derives p ts → Derives q ts → p ≡ q
+derives-one : (ts : Toks) (p q : Tree) → Derives p ts → Derives q ts → p ≡ q
 derives-one ts p q a b = ok_value _ _ _ _ (sym (program_only p ts a) ∙ program_only q ts b)
 
-listing-lexes : (p : Program) (ts : Toks) → ts ≡ program_tokens p → AllByRecursion IsSpelt ts → Lexes (listing false p) ts
+listing-lexes : (p : Tree) (ts : Toks) → ts ≡ program_tokens p → AllByRecursion IsSpelt ts → Lexes (listing false p) ts
 listing-lexes p ts same each =
     subst (λ (us : Toks). Lexes (listing false p) us) (sym same) (spaced-lexes (listing false p) (program_tokens p) (listing-spaced p (subst (λ (us : Toks). AllByRecursion IsSpelt us) same each)))
 
-pub reads_back : (p : Program) → ReadsBack p (listing false p)
+pub reads_back : (p : Tree) → ReadsBack p (listing false p)
 reads_back p source ts l d =
-    let lexes : Lexes (listing false p) ts = listing-lexes p ts (program-tokens (unnamed p) ts d ∙ program-tokens-unnamed p) (lexes-spelt [] source ts l) in
+    let lexes : Lexes (listing false p) ts = listing-lexes p ts (program-tokens (unnamed_program p) ts d ∙ program-tokens-unnamed p) (lexes-spelt [] source ts l) in
     record {
       lexes = lexes;
       derives = d;
-      only = λ us other m e. derives-one ts other (unnamed p) (subst (λ (vs : Toks). Derives other vs) (Lexes-one (listing false p) us ts m lexes) e) d;
+      only = λ us other m e. derives-one ts other (unnamed_program p) (subst (λ (vs : Toks). Derives other vs) (Lexes-one (listing false p) us ts m lexes) e) d;
     }
 
-pub ok_reads_back : (r : Result (List ℕ) NoMemory) (p : Program) → IfOk r (λ text. text ≡ listing false p) → IfOk r (λ text. ReadsBack p text)
+pub ok_reads_back : (r : Result (List ℕ) NoMemory) (p : Tree) → IfOk r (λ text. text ≡ listing false p) → IfOk r (λ text. ReadsBack p text)
 ok_reads_back (Ok text) p is = subst (λ (t : List ℕ). ReadsBack p t) (sym is) (reads_back p)
 ok_reads_back (Err e) p is = tt
 

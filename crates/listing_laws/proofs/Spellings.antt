@@ -35,12 +35,12 @@ entry_at table w k e =
     let same : k ≡ r.0 = omega (arith, r.1) in
     ap (λ n. get_or table n []) same ∙ r.2
 
-word-spelling : (w : List ℕ) (k : ℕ) → word_symbol w ≡ some k → spelling.word_of k ≡ w
-unfolding word_symbol spelling.word_of
+word-spelling : (w : List ℕ) (k : ℕ) → word_symbol w ≡ some k → spelling.word_spelling k ≡ w
+unfolding word_symbol spelling.word_spelling
 word-spelling w k e = entry_at (map (λ x. x.now) WORD_SYMBOLS) w k e
 
-sign-spelling : (w : List ℕ) (k : ℕ) → sign_of w ≡ some k → spelling.sign_of k ≡ w
-unfolding sign_of spelling.sign_of
+sign-spelling : (w : List ℕ) (k : ℕ) → sign_of w ≡ some k → spelling.sign_spelling k ≡ w
+unfolding sign_of spelling.sign_spelling
 sign-spelling w k e = entry_at (map (λ x. x.now) SIGNS) w k e
 
 -- ---- words in lower case

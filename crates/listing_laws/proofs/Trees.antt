@@ -24,13 +24,13 @@ use Rattle.pascal_tree.specs.declared.expr.AccessPart.TheFolds.{fold-roll-Access
 use Rattle.pascal_tree.specs.Tokens.{Toks}
 use Rattle.pascal_tree.specs.Expressions.{make_mul, make_add, make_rel, make_access, make_term, make_sum, make_expr}
 use Rattle.pascal_tree.specs.Statements.{make_arg}
-use Rattle.pascal_tree.specs.Joined.{flat, optional, behind}
+use Rattle.pascal_tree.specs.Joined.{flat, optional_part, optional_part_after}
 use Rattle.dice_base.specs.Symbols as symbol
-use Rattle.pascal_tree.specs.ExprTokens.{in_part, in_factor, in_access, in_adding, in_arg, in_expr, in_multiplying, in_relation, in_member, in_sum, in_term, prefix_tokens, mul_token, add_token, rel_token, listed, expr_tokens, relation_tokens, sum_tokens, adding_tokens, term_tokens, multiplying_tokens, factor_tokens, arg_tokens, access_tokens, part_tokens}
+use Rattle.pascal_tree.specs.ExprTokens.{in_part, in_factor, in_access, in_adding, in_arg, in_expr, in_multiplying, in_relation, in_member, in_sum, in_term, prefix_tokens, mul_token, add_token, rel_token, comma_list, expr_tokens, relation_tokens, sum_tokens, adding_tokens, term_tokens, multiplying_tokens, factor_tokens, arg_tokens, access_tokens, part_tokens}
 
 -- ---- expressions, terms and their parts
 
-pub expr-made : (x : SumExpr) (rest : Option RelPart) → expr_tokens (make_expr x rest) ≡ sum_tokens x ++ optional (option_map relation_tokens rest)
+pub expr-made : (x : SumExpr) (rest : Option RelPart) → expr_tokens (make_expr x rest) ≡ sum_tokens x ++ optional_part (option_map relation_tokens rest)
 unfolding expr_tokens sum_tokens relation_tokens
 expr-made x None = fold-roll-Expr Toks Toks Toks Toks Toks Toks Toks Toks Toks Toks Toks in_part in_factor in_access in_adding in_arg in_expr in_multiplying in_relation in_member in_sum in_term (record { first = x; rest = None })
 expr-made x (Some r) = fold-roll-Expr Toks Toks Toks Toks Toks Toks Toks Toks Toks Toks Toks in_part in_factor in_access in_adding in_arg in_expr in_multiplying in_relation in_member in_sum in_term (record { first = x; rest = Some r })
@@ -79,7 +79,7 @@ pub access-made : (x : List ℕ) (parts : List AccessPart) → access_tokens (ma
 unfolding access_tokens part_tokens
 access-made x parts = fold-roll-Access Toks Toks Toks Toks Toks Toks Toks Toks Toks Toks Toks in_part in_factor in_access in_adding in_arg in_expr in_multiplying in_relation in_member in_sum in_term (record { ident = x; parts = parts })
 
-pub index-made : (found : List Expr) → part_tokens (part.Index found) ≡ symbol.left_sign ∷ (listed (map expr_tokens found) ++ symbol.right_sign ∷ [])
+pub index-made : (found : List Expr) → part_tokens (part.Index found) ≡ symbol.left_sign ∷ (comma_list (map expr_tokens found) ++ symbol.right_sign ∷ [])
 unfolding part_tokens expr_tokens
 index-made found = ap part_tokens (sym (rolls-Index found)) ∙ fold-roll-AccessPart Toks Toks Toks Toks Toks Toks Toks Toks Toks Toks Toks in_part in_factor in_access in_adding in_arg in_expr in_multiplying in_relation in_member in_sum in_term (AccessPart-F.Index found)
 
@@ -91,7 +91,7 @@ pub deref-made : part_tokens part.Dereference ≡ symbol.arrow_sign ∷ []
 unfolding part_tokens
 deref-made = ap part_tokens (sym rolls-Dereference) ∙ fold-roll-AccessPart Toks Toks Toks Toks Toks Toks Toks Toks Toks Toks Toks in_part in_factor in_access in_adding in_arg in_expr in_multiplying in_relation in_member in_sum in_term (AccessPart-F.Dereference)
 
-pub arg-made : (e : Expr) (width : Option Expr) → arg_tokens (make_arg e width) ≡ expr_tokens e ++ behind symbol.colon_sign (option_map expr_tokens width)
+pub arg-made : (e : Expr) (width : Option Expr) → arg_tokens (make_arg e width) ≡ expr_tokens e ++ optional_part_after symbol.colon_sign (option_map expr_tokens width)
 unfolding arg_tokens expr_tokens
 arg-made e None = fold-roll-Arg Toks Toks Toks Toks Toks Toks Toks Toks Toks Toks Toks in_part in_factor in_access in_adding in_arg in_expr in_multiplying in_relation in_member in_sum in_term (record { value = e; width = None })
 arg-made e (Some w) = fold-roll-Arg Toks Toks Toks Toks Toks Toks Toks Toks Toks Toks Toks in_part in_factor in_access in_adding in_arg in_expr in_multiplying in_relation in_member in_sum in_term (record { value = e; width = Some w })

@@ -14,7 +14,7 @@ use Rattle.pascal_tree.specs.declared.decl.Heading.{Heading}
 use Rattle.pascal_tree.specs.declared.decl.Block.{Block, Block-F, roll-Block, map-Block}
 use Rattle.pascal_tree.specs.declared.decl.Routine.{Routine, Routine-F, roll-Routine, map-Routine}
 use Rattle.pascal_tree.specs.declared.decl.Block.TheFolds.{fold-roll-Block, fold-roll-Routine, ind-Block}
-use Rattle.pascal_tree.specs.declared.program.Program.{Program}
+use Rattle.pascal_tree.specs.declared.program.Tree.{Tree}
 use Rattle.pascal_tree.specs.Tokens.{Toks}
 use Rattle.pascal_tree.specs.Statements.{no_name}
 use Rattle.dice_base.specs.Symbols.{end_word, of_word, var_word, semicolon_sign, colon_sign, period_sign, begin_word, case_word, const_word, do_word, else_word, goto_word, if_word, label_word, repeat_word, then_word, type_word, until_word, while_word, with_word, becomes_sign}
@@ -25,7 +25,7 @@ use Rattle.pascal_print.specs.declared.event.Event.TheVariants.{Token}
 use Rattle.pascal_print.specs.Events as events
 use Rattle.pascal_print.specs.Events.{Laid, tokens_of, said, label_tokens, tested, range, child, more, sequence, ended, else_part, labels, declaration, part, decl_events, block_or_forward, stmt_events, kind_events, arm_events, block_events, routine_events, program_tokens}
 use Rattle.listing_laws.specs.Unnamed as without
-use Rattle.listing_laws.specs.Unnamed.{unnamed_stmt, unnamed_kind, unnamed_arm, unnamed_decl, unnamed_block, unnamed_routine, unnamed}
+use Rattle.listing_laws.specs.Unnamed.{unnamed_stmt, unnamed_kind, unnamed_arm, unnamed_decl, unnamed_block, unnamed_routine, unnamed_program}
 use Rattle.listing_laws.proofs.Events.{tokens-append, tokens-child}
 
 -- ---- events whose tokens are the same
@@ -327,6 +327,6 @@ block-tokens-unnamed : (b : Block) → BlockAlike b
 block-tokens-unnamed =
     ind-Block BlockAlike RoutineAlike (λ x y is. subst (λ z. BlockAlike (roll-Block z)) is (block-alike y)) (λ x y is. subst (λ z. RoutineAlike (roll-Routine z)) is (routine-alike y))
 
-pub program-tokens-unnamed : (p : Program) → program_tokens (unnamed p) ≡ program_tokens p
+pub program-tokens-unnamed : (p : Tree) → program_tokens (unnamed_program p) ≡ program_tokens p
 program-tokens-unnamed p =
     (append-alike (append-alike (self (said (events.heading p))) ((block-tokens-unnamed p.block).laid 0)) (self (Token period_sign ∷ []))).same

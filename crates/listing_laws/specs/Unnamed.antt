@@ -1,4 +1,4 @@
--- A program without the names of its items: the number 0 stands in the place of each.
+-- A program without the names of its items: each is 0.
 use Rattle.std.specs.Prelude.{map}
 use Rattle.std.specs.Option.{option_map}
 use Rattle.pascal_tree.specs.declared.stmt.Stmt.{Stmt, Stmt-F, roll-Stmt, fold-Stmt}
@@ -7,14 +7,16 @@ use Rattle.pascal_tree.specs.declared.stmt.Arm.{Arm, roll-Arm, fold-Arm}
 use Rattle.pascal_tree.specs.declared.decl.Decl.{Decl}
 use Rattle.pascal_tree.specs.declared.decl.Block.{Block, Block-F, roll-Block, fold-Block}
 use Rattle.pascal_tree.specs.declared.decl.Routine.{Routine, Routine-F, roll-Routine, fold-Routine}
-use Rattle.pascal_tree.specs.declared.program.Program.{Program}
+use Rattle.pascal_tree.specs.declared.program.Tree.{Tree}
 use Rattle.pascal_tree.specs.Statements.{no_name}
 
--- ---- statements: one layer of the tree, whose parts stand there without names
+-- ---- statements
 
+-- one layer of the tree, in which each part is without names already
 abbrev pub in_stmt : Stmt-F StmtKind Arm Stmt → Stmt
 in_stmt s = roll-Stmt (record { name = no_name; label = s.label; kind = s.kind })
 
+-- a statement, a kind and an arm, each with all that it contains
 unfoldable pub unnamed_stmt : Stmt → Stmt
 unnamed_stmt = fold-Stmt StmtKind Arm Stmt roll-StmtKind roll-Arm in_stmt
 
@@ -24,7 +26,7 @@ unnamed_kind = fold-StmtKind StmtKind Arm Stmt roll-StmtKind roll-Arm in_stmt
 unfoldable pub unnamed_arm : Arm → Arm
 unnamed_arm = fold-Arm StmtKind Arm Stmt roll-StmtKind roll-Arm in_stmt
 
--- ---- declarations, blocks and programs
+-- ---- declarations, blocks and programs, each with all that it contains
 
 abbrev pub unnamed_decl : Decl → Decl
 unnamed_decl d = record { name = no_name; kind = d.kind }
@@ -49,5 +51,5 @@ unnamed_block = fold-Block Block Routine in_block in_routine
 unfoldable pub unnamed_routine : Routine → Routine
 unnamed_routine = fold-Routine Block Routine in_block in_routine
 
-abbrev pub unnamed : Program → Program
-unnamed p = record { ident = p.ident; files = p.files; block = unnamed_block p.block; next = 0 }
+abbrev pub unnamed_program : Tree → Tree
+unnamed_program p = record { ident = p.ident; files = p.files; block = unnamed_block p.block; next = 0 }

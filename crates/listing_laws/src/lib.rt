@@ -4,6 +4,3 @@
 mod print;
 
 pub use print::{print_plain, print_plain_statement};
-
-#[cfg(test)]
-mod tests;

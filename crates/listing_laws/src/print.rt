@@ -5,14 +5,14 @@ ghost use Rattle.listing_laws.specs.ReadsBack.{ReadsBack, StatementReadsBack};
 
 use dice_base::{NoMemory, Text};
 use pascal_print::{print_program, print_statement};
-use pascal_tree::{Program, Stmt};
+use pascal_tree::{Stmt, Tree};
 use std::alloc::Global;
 
 /// The listing of a program without the names of its items.
 ///
 /// Where the program, names aside, derives the tokens of any text at all, as one does that was read from a text, the
 /// listing is a text of the same tokens, and nothing but this program is read of it.
-pub fn print_plain(alloc: Global, program: &Program) -> Result<Text, NoMemory>
+pub fn print_plain(alloc: Global, program: &Tree) -> Result<Text, NoMemory>
     ensures listing { IfOk result (λ text. text ≡ spec.listing false program.now) }
     ensures reads_back { IfOk result (λ text. ReadsBack program.now text) }
 {

@@ -11,7 +11,7 @@ use dice_base::{Name, Text};
 use expression_parser::Cursor;
 use expression_parser::classes::{COMMA, IDENT, PERIOD};
 use grammar_laws::Stop;
-use pascal_tree::{Block, Decl, DeclKind, Program, Stmt, StmtKind, TypeText};
+use pascal_tree::{Block, Decl, DeclKind, Stmt, StmtKind, Tree as Program, TypeText};
 use sqlite_items::Items;
 use std::alloc::Global;
 

@@ -1,6 +1,6 @@
 //! All the tokens, as one program or one statement.
 ghost use Rattle.std.specs.Prelude.{◌≡◌, map, IfOk};
-ghost use Rattle.pascal_tree.specs.declared.program.Program.{Program};
+ghost use Rattle.pascal_tree.specs.declared.program.Tree.{Tree as Program};
 ghost use Rattle.pascal_tree.specs.declared.stmt.Stmt.{Stmt};
 ghost use Rattle.pascal_tree.specs.Programs.{Derives};
 ghost use Rattle.grammar_laws.specs.ProgramReading as read;
@@ -13,7 +13,7 @@ use crate::stmts::stmt_within;
 use dice_base::Token;
 use expression_parser::Cursor;
 use grammar_laws::Stop;
-use pascal_tree::{Program, Stmt};
+use pascal_tree::{Stmt, Tree as Program};
 use std::alloc::Global;
 
 // The program is at level 1, its body at level 2, so the body's statements have 62 levels of the 64.

@@ -2,7 +2,7 @@
 use super::*;
 use dice_base::{NoMemory, Text, push_decimal};
 use pascal_scanner::scan;
-use pascal_tree::{Program, Stmt, StmtKind};
+use pascal_tree::{Stmt, StmtKind, Tree as Program};
 use std::alloc::Global;
 use std::test::Fail;
 

@@ -12,7 +12,7 @@ use Rattle.pascal_tree.specs.declared.stmt.Arm.{Arm, Arm-F, fold-Arm}
 use Rattle.pascal_tree.specs.declared.decl.Decl.{Decl}
 use Rattle.pascal_tree.specs.declared.decl.Block.{Block, Block-F, fold-Block}
 use Rattle.pascal_tree.specs.declared.decl.Routine.{Routine, Routine-F, fold-Routine}
-use Rattle.pascal_tree.specs.declared.program.Program.{Program}
+use Rattle.pascal_tree.specs.declared.program.Tree.{Tree}
 use Rattle.pascal_tree.specs.Tokens.{Toks}
 use Rattle.pascal_tree.specs.Joined.{flat}
 use Rattle.dice_base.specs.Symbols.{end_word, of_word, var_word, comma_sign, period_sign, semicolon_sign, colon_sign, begin_word, case_word, const_word, do_word, downto_word, else_word, for_word, goto_word, if_word, label_word, program_word, repeat_word, then_word, to_word, type_word, until_word, while_word, with_word, becomes_sign}
@@ -147,13 +147,13 @@ routine_events = fold-Routine Laid Laid in_block in_routine
 abbrev pub program_name : Name
 program_name = record { 0 = 1 }
 
-abbrev pub heading : Program → Toks
+abbrev pub heading : Tree → Toks
 heading p = program_word ∷ Ident p.ident ∷ in_parens comma_sign (map ident_tokens p.files) ++ semicolon_sign ∷ []
 
-abbrev pub program_events : Program → List Event
+abbrev pub program_events : Tree → List Event
 program_events p = Item program_name 0 ∷ said (heading p) ++ block_events p.block 0 ++ Token period_sign ∷ []
 
-abbrev pub program_tokens : Program → Toks
+abbrev pub program_tokens : Tree → Toks
 program_tokens p = tokens_of (program_events p)
 
 abbrev pub statement_tokens : Stmt → Toks

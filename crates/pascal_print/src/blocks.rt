@@ -12,7 +12,7 @@ use crate::event::Event;
 use crate::events::Events;
 use crate::statements::{deeper, push_stmt};
 use dice_base::{Name, NoMemory, Text, TokenKind, signs, words};
-use pascal_tree::{Block, Decl, Heading, Program, Routine};
+use pascal_tree::{Block, Decl, Heading, Routine, Tree};
 use std::alloc::Global;
 use tree_text::{push_decl, push_heading, push_idents};
 
@@ -174,7 +174,7 @@ fn push_files(alloc: Global, files: &[Text], tokens: &mut Vec<TokenKind>) -> Res
     Ok(())
 }
 
-fn push_program_heading(alloc: Global, program: &Program, out: &mut Events) -> Result<(), NoMemory>
+fn push_program_heading(alloc: Global, program: &Tree, out: &mut Events) -> Result<(), NoMemory>
     ensures { OnOk result (out.new ≡ out.old ++ said (spec.heading program.now)) }
 {
     let mut tokens = Vec::new(alloc);
@@ -186,7 +186,7 @@ fn push_program_heading(alloc: Global, program: &Program, out: &mut Events) -> R
 }
 
 /// The events of a program.
-pub fn push_program(alloc: Global, program: &Program, out: &mut Events) -> Result<(), NoMemory>
+pub fn push_program(alloc: Global, program: &Tree, out: &mut Events) -> Result<(), NoMemory>
     ensures { OnOk result (out.new ≡ out.old ++ spec.program_events program.now) }
 {
     out.push(Event::Item(Name(1), 0))?;

@@ -1,7 +1,7 @@
 //! Events as the lines of a text.
 ghost use Rattle.std.specs.Prelude.{◌≡◌, [], ◌∷◌, ◌++◌, List, IfOk, OnOk};
 ghost use Rattle.pascal_print.specs.Layout.{going, whole, whole_with};
-ghost use Rattle.pascal_print.specs.Listing.{Rest, begins, on_line, lines_of, text_of_lines, text_of_line, blanks, places, spelled, spelled_behind, indented};
+ghost use Rattle.pascal_print.specs.Listing.{Rest, begins, on_line, listing_lines, text_of_lines, text_of_line, blanks, places, spellings_of, spellings_after_blanks, indented_line};
 ghost use Rattle.pascal_print.specs.Listing as spec;
 
 use crate::event::{Event, Line};
@@ -45,7 +45,7 @@ fn push_places(alloc: Global, name: Option<Name>, out: &mut Text) -> Result<(), 
 
 // Each token behind a blank.
 fn push_behind(alloc: Global, tokens: &[TokenKind], out: &mut Text) -> Result<(), NoMemory>
-    ensures { OnOk result (out.new ≡ out.old ++ spelled_behind tokens.now) }
+    ensures { OnOk result (out.new ≡ out.old ++ spellings_after_blanks tokens.now) }
 {
     for token in tokens {
         out.push(alloc, b' ')?;
@@ -55,7 +55,7 @@ fn push_behind(alloc: Global, tokens: &[TokenKind], out: &mut Text) -> Result<()
 }
 
 fn push_spelled(alloc: Global, tokens: &[TokenKind], out: &mut Text) -> Result<(), NoMemory>
-    ensures { OnOk result (out.new ≡ out.old ++ spelled tokens.now) }
+    ensures { OnOk result (out.new ≡ out.old ++ spellings_of tokens.now) }
 {
     match tokens {
         [] => Ok(()),
@@ -73,7 +73,7 @@ fn push_indented(
     tokens: &[TokenKind],
     out: &mut Text,
 ) -> Result<(), NoMemory>
-    ensures { OnOk result (out.new ≡ out.old ++ indented level tokens.now) }
+    ensures { OnOk result (out.new ≡ out.old ++ indented_line level tokens.now) }
 {
     let Some(width) = level.checked_mul(2) else {
         return Err(NoMemory);
@@ -153,7 +153,7 @@ pub struct Layout {
 
 impl Layout {
     fn new(alloc: Global, names: bool) -> Layout
-        ensures { (es : List Event) → whole_with result es ≡ text_of_lines names (lines_of es) }
+        ensures { (es : List Event) → whole_with result es ≡ text_of_lines names (listing_lines es) }
     {
         Layout {
             names,
@@ -238,7 +238,7 @@ impl Layout {
 
 /// The lines of these events as a text, with names or without.
 pub fn lay_out(alloc: Global, names: bool, events: Events) -> Result<Text, NoMemory>
-    ensures { IfOk result (λ text. text ≡ text_of_lines names (lines_of events)) }
+    ensures { IfOk result (λ text. text ≡ text_of_lines names (listing_lines events)) }
 {
     let mut events = events;
     let mut layout = Layout::new(alloc, names);

@@ -10,6 +10,3 @@ mod statements;
 
 pub use event::{Event, Line};
 pub use print::{print_program, print_statement};
-
-#[cfg(test)]
-mod tests;

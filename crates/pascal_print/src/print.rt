@@ -7,7 +7,7 @@ use crate::events::Events;
 use crate::layout::lay_out;
 use crate::statements::push_stmt;
 use dice_base::{NoMemory, Text};
-use pascal_tree::{Program, Stmt};
+use pascal_tree::{Stmt, Tree};
 use std::alloc::Global;
 
 /// The listing of a program, with the names of its items or without. A line begins at each item, at each of `label`,
@@ -16,7 +16,7 @@ use std::alloc::Global;
 ///
 /// A name stands right in six places, or in as many as it has digits, with a blank between it and the tokens, if there
 /// are any. Without names a line of no tokens is left out.
-pub fn print_program(alloc: Global, program: &Program, names: bool) -> Result<Text, NoMemory>
+pub fn print_program(alloc: Global, program: &Tree, names: bool) -> Result<Text, NoMemory>
     ensures { IfOk result (λ text. text ≡ spec.listing names program.now) }
 {
     let mut events = Events::new(alloc);

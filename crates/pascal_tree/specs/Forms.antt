@@ -1,4 +1,5 @@
--- Forms, of which the grammar is made: relations between a value, a flag and the tokens that the value derives.
+-- Forms, of which the grammar is made: relations between a value, a flag and the tokens that the value derives. They
+-- are the metalanguage of ISO 7185:1990, clause 3 (table 1), with the trees that it leaves out.
 use Rattle.std.specs.Prelude.{◌≡◌, ℕ, ◌==◌, if◌then◌else◌, List, [], ◌∷◌, ◌++◌, ◌⊎◌, Option, Some, None}
 use Rattle.dice_base.specs.declared.token.TokenKind.{TokenKind}
 use Rattle.dice_base.specs.declared.token.TokenKind.TheVariants.{Ident, Number}
@@ -21,11 +22,14 @@ abbrev pub token : {A W : Type 0} → ℕ → (A → W → Toks → Type 0) → 
 token c g a w u = (t : TokenKind) × (v : Toks) × (u ≡ t ∷ v) × (class_of t ≡ c) × g a w v
 
 -- one form after another, which may use its value and its flag
-abbrev pub chain : {A W B V : Type 0} → (A → W → Toks → Type 0) → (A → W → B → V → Toks → Type 0) → B → V → Toks → Type 0
-chain {A} {W} g h b v u = (a : A) × (w : W) × (x : Toks) × (y : Toks) × (u ≡ x ++ y) × g a w x × h a w b v y
+abbrev pub chain :
+    {A W B V : Type 0} → (A → W → Toks → Type 0) → (A → W → B → V → Toks → Type 0) → B → V → Toks → Type 0
+chain {A} {W} g h b v u =
+    (a : A) × (w : W) × (x : Toks) × (y : Toks) × (u ≡ x ++ y) × g a w x × h a w b v y
 
 -- either form
-abbrev pub either : {A W : Type 0} → (A → W → Toks → Type 0) → (A → W → Toks → Type 0) → A → W → Toks → Type 0
+abbrev pub either :
+    {A W : Type 0} → (A → W → Toks → Type 0) → (A → W → Toks → Type 0) → A → W → Toks → Type 0
 either g h a w u = g a w u ⊎ h a w u
 
 -- one item after another
@@ -33,6 +37,7 @@ abbrev pub row : {A : Type 0} → (A → Toks → Type 0) → List A → Toks �
 row g [] u = u ≡ []
 row g (a ∷ as') u = (x : Toks) × (y : Toks) × (u ≡ x ++ y) × g a x × row g as' y
 
+-- the same as a form
 abbrev pub rows : {A : Type 0} → (A → Toks → Type 0) → Form (List A)
 rows g = λ xs w u. row g xs u
 
@@ -47,7 +52,8 @@ after_sep c g a u = token c g a tt u ⊎ ⊥
 
 -- one item or more, with a separator between
 abbrev pub list_of : {A : Type 0} → ℕ → Form A → Form (List A)
-list_of {A} c g = chain g (λ x _ xs w u. (more : List A) × (xs ≡ x ∷ more) × row (after_sep c g) more u)
+list_of {A} c g =
+    chain g (λ x _ xs w u. (more : List A) × (xs ≡ x ∷ more) × row (after_sep c g) more u)
 
 -- the operator of a class, in a table of classes and operators
 abbrev pub operator : {O : Type 0} → List (ℕ × O) → ℕ → Option O
@@ -55,8 +61,11 @@ operator [] c = None
 operator (e ∷ table) c = if c == e.0 then Some e.1 else operator table c
 
 -- an operator and what stands behind it
-abbrev pub behind_op : {O B A : Type 0} → (ℕ → Option O) → (O → B → A) → (B → Toks → Type 0) → A → Toks → Type 0
-behind_op {O} {B} op make g a u = (o : O) × (b : B) × (t : TokenKind) × (v : Toks) × (u ≡ t ∷ v) × (op (class_of t) ≡ Some o) × g b v × (a ≡ make o b)
+abbrev pub behind_op :
+    {O B A : Type 0} → (ℕ → Option O) → (O → B → A) → (B → Toks → Type 0) → A → Toks → Type 0
+behind_op {O} {B} op make g a u =
+    (o : O) × (b : B) × (t : TokenKind) × (v : Toks) × (u ≡ t ∷ v)
+    × (op (class_of t) ≡ Some o) × g b v × (a ≡ make o b)
 
 -- an identifier and a number
 abbrev pub named : Form (List ℕ)

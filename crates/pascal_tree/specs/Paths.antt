@@ -7,18 +7,18 @@ use Rattle.pascal_tree.specs.declared.stmt.Arm.{Arm, out-Arm}
 use Rattle.pascal_tree.specs.declared.decl.Decl.{Decl}
 use Rattle.pascal_tree.specs.declared.decl.Block.{Block, out-Block}
 use Rattle.pascal_tree.specs.declared.decl.Routine.{Routine, out-Routine}
-use Rattle.pascal_tree.specs.declared.program.Program.{Program as Tree}
+use Rattle.pascal_tree.specs.declared.program.Tree.{Tree}
 
--- an item, and all that stands in it
+-- a named item of a program, with all that it contains
 pub data ItemValue : Type 0 where
   OfProgram : Tree → ItemValue
   OfDecl : Decl → ItemValue
   OfRoutine : Routine → ItemValue
   OfStmt : Stmt → ItemValue
 
--- ---- the parts of an item, one level down, in the order of the text
+-- ---- the items directly within an item, in the order of the text
 
--- where each kind, arm and statement stands as a K, an A and an S
+-- the statements of a kind, where it has a K, an A and an S in place of each kind, arm and statement
 abbrev pub kind_parts : {K A S : Type 0} → (A → S) → StmtKind-F K A S → List S
 kind_parts body (StmtKind-F.Compound stmts) = stmts
 kind_parts body (StmtKind-F.If e first second) = first ∷ option_to_list second
@@ -29,40 +29,47 @@ kind_parts body (StmtKind-F.For x first down last inner) = inner ∷ []
 kind_parts body (StmtKind-F.With records inner) = inner ∷ []
 kind_parts body _ = []
 
+-- the statement of an arm, which is no item itself
 abbrev pub arm_body : Arm → Stmt
 arm_body arm = (out-Arm arm).body
 
+-- the statements directly within a statement
 abbrev pub stmt_children : Stmt → List Stmt
 stmt_children s = kind_parts arm_body (out-StmtKind (out-Stmt s).kind)
 
+-- the declarations, routines and body of a block, in the order of ISO 7185:1990, 6.2.1
 abbrev pub block_children : Block → List ItemValue
 block_children b =
-    map OfDecl (option_to_list (out-Block b).labels) ++ (map OfDecl (out-Block b).consts ++ (map OfDecl (out-Block b).types ++ (map OfDecl (out-Block b).vars ++ (map OfRoutine (out-Block b).routines ++ OfStmt (out-Block b).body ∷ []))))
+    map OfDecl (option_to_list (out-Block b).labels)
+    ++ (map OfDecl (out-Block b).consts
+    ++ (map OfDecl (out-Block b).types
+    ++ (map OfDecl (out-Block b).vars
+    ++ (map OfRoutine (out-Block b).routines ++ OfStmt (out-Block b).body ∷ []))))
 
+-- none where a routine is `forward`
 abbrev pub any_children : Option Block → List ItemValue
 any_children None = []
 any_children (Some b) = block_children b
 
+-- a declaration contains no other item
 abbrev pub item_children : ItemValue → List ItemValue
 item_children (OfProgram p) = block_children p.block
 item_children (OfDecl d) = []
 item_children (OfRoutine r) = any_children (out-Routine r).block
 item_children (OfStmt s) = map OfStmt (stmt_children s)
 
--- ---- what stands at a path
+-- ---- the item at a path
 
-abbrev pub stmt_at : List ℕ → Stmt → Option Stmt
-stmt_at [] s = Some s
-stmt_at (i ∷ path) s = option_and_then (stmt_at path) (slice_get (stmt_children s) i)
-
+-- the path is followed from the item on
 abbrev pub item_at : List ℕ → ItemValue → Option ItemValue
 item_at [] x = Some x
 item_at (i ∷ path) x = option_and_then (item_at path) (slice_get (item_children x) i)
 
+-- the path is that of an item in a program
 abbrev pub tree_at : List ℕ → Tree → Option ItemValue
 tree_at path t = item_at path (OfProgram t)
 
--- the program itself is 1
+-- the name of an item; that of the program is 1
 abbrev pub item_name : ItemValue → ℕ
 item_name (OfProgram p) = 1
 item_name (OfDecl d) = d.name.0
@@ -71,10 +78,11 @@ item_name (OfStmt s) = (out-Stmt s).name.0
 
 -- ---- the ends of a path
 
--- without the last place
+-- the path of the item around it: without the last place
 abbrev pub front : List ℕ → Option (List ℕ)
 front [] = None
 front (i ∷ path) = Some (take (length path) (i ∷ path))
 
+-- the place of the item among those directly within the item around it
 abbrev pub last_place : List ℕ → Option ℕ
 last_place path = slice_get path (length path - 1)

@@ -3,9 +3,11 @@ use Rattle.std.specs.Prelude.{ℕ, ◌+◌, ◌*◌, List, [], ◌∷◌}
 use Rattle.dice_base.specs.declared.token.TokenKind.{TokenKind}
 use Rattle.dice_base.specs.declared.token.TokenKind.TheVariants.{Word, Ident, Number, Str, Sign, Hole}
 
+-- the tokens of a text
 abbrev pub Toks : Type 0
 Toks = List TokenKind
 
+-- each word symbol and each sign is a class; identifiers are one, numbers one, and strings one
 abbrev pub class_of : TokenKind → ℕ
 class_of (Word k) = 6 * k
 class_of (Ident x) = 1

@@ -4,7 +4,7 @@ ghost use Rattle.pascal_tree.specs.declared.decl.Block.{out-Block};
 
 use crate::decl_copies::{copy_decl_kind, copy_heading, copy_texts};
 use crate::stmt_copies::copy_stmt;
-use crate::{Block, Decl, Program, Routine};
+use crate::{Block, Decl, Routine, Tree};
 use dice_base::NoMemory;
 use sqlite_items::Items;
 use std::alloc::Global;
@@ -57,8 +57,8 @@ fn copy_ends(
     requires routines { routines ≡ (out-Block block.now).routines }
     ensures { IfOk result (λ x. x ≡ block.now) }
 {
-    let body = copy_stmt(alloc, &block.body)?;
     let labels = copy_labels(alloc, &block.labels)?;
+    let body = copy_stmt(alloc, &block.body)?;
     Ok(Block {
         labels,
         consts,
@@ -118,14 +118,14 @@ pub fn copy_routines(alloc: Global, routines: &[Routine]) -> Result<Items<Routin
 }
 
 /// A copy of a program.
-pub fn copy_program(alloc: Global, program: &Program) -> Result<Program, NoMemory>
+pub fn copy_program(alloc: Global, program: &Tree) -> Result<Tree, NoMemory>
     ensures { IfOk result (λ x. x ≡ program.now) }
 {
     let ident = program.ident.copy(alloc)?;
     let files = copy_texts(alloc, program.files.as_slice())?;
     let block = copy_block(alloc, &program.block)?;
     let next = program.next;
-    Ok(Program {
+    Ok(Tree {
         ident,
         files,
         block,

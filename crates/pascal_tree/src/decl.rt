@@ -4,14 +4,14 @@ use dice_base::{Name, Text};
 use sqlite_items::Items;
 
 /// A declaration, with its name.
-#[derive(Debug, Drop)]
+#[derive(Drop)]
 pub struct Decl {
     pub name: Name,
     pub kind: DeclKind,
 }
 
 /// What a declaration says. All labels of a block are one declaration.
-#[derive(Debug, Drop)]
+#[derive(Drop)]
 pub enum DeclKind {
     LabelDecl(Items<u16>),
     ConstDecl(Text, Constant),
@@ -20,7 +20,7 @@ pub enum DeclKind {
 }
 
 /// Parameters of one type.
-#[derive(Debug, Drop)]
+#[derive(Drop)]
 pub struct Section {
     /// They are variable parameters.
     pub by_place: bool,
@@ -30,7 +30,7 @@ pub struct Section {
 }
 
 /// The heading of a procedure or a function.
-#[derive(Debug, Drop)]
+#[derive(Drop)]
 pub struct Heading {
     pub function: bool,
     pub ident: Text,
@@ -41,7 +41,7 @@ pub struct Heading {
 
 /// A procedure or a function, with its name. Without a block it is `forward`.
 #[cycle(block)]
-#[derive(Debug, Drop)]
+#[derive(Drop)]
 pub struct Routine {
     pub name: Name,
     pub heading: Heading,
@@ -50,7 +50,7 @@ pub struct Routine {
 
 /// The declarations and the body of a program or a routine.
 #[cycle(block)]
-#[derive(Debug, Drop)]
+#[derive(Drop)]
 pub struct Block {
     pub labels: Option<Decl>,
     pub consts: Items<Decl>,

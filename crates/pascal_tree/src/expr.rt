@@ -3,7 +3,7 @@ use dice_base::Text;
 use sqlite_items::{Boxed, Items};
 
 /// The sign before a sum or a constant, if there is one.
-#[derive(Clone, Copy, Debug, PartialEq, Eq)]
+#[derive(Clone, Copy)]
 pub enum Prefix {
     Without,
     Plus,
@@ -11,7 +11,7 @@ pub enum Prefix {
 }
 
 /// A relational operator; `Member` is `in`.
-#[derive(Clone, Copy, Debug, PartialEq, Eq)]
+#[derive(Clone, Copy)]
 pub enum RelOp {
     Equal,
     NotEqual,
@@ -23,7 +23,7 @@ pub enum RelOp {
 }
 
 /// An adding operator.
-#[derive(Clone, Copy, Debug, PartialEq, Eq)]
+#[derive(Clone, Copy)]
 pub enum AddOp {
     Plus,
     Minus,
@@ -31,7 +31,7 @@ pub enum AddOp {
 }
 
 /// A multiplying operator.
-#[derive(Clone, Copy, Debug, PartialEq, Eq)]
+#[derive(Clone, Copy)]
 pub enum MulOp {
     Times,
     Div,
@@ -41,7 +41,7 @@ pub enum MulOp {
 
 /// An expression: a sum, or the relation of two.
 #[cycle(expr)]
-#[derive(Debug, Drop)]
+#[derive(Drop)]
 pub struct Expr {
     pub first: SumExpr,
     pub rest: Option<RelPart>,
@@ -49,7 +49,7 @@ pub struct Expr {
 
 /// A relational operator, and the sum behind it.
 #[cycle(expr)]
-#[derive(Debug, Drop)]
+#[derive(Drop)]
 pub struct RelPart {
     pub op: RelOp,
     pub right: SumExpr,
@@ -57,7 +57,7 @@ pub struct RelPart {
 
 /// Terms with adding operators between, and perhaps a sign before the first.
 #[cycle(expr)]
-#[derive(Debug, Drop)]
+#[derive(Drop)]
 pub struct SumExpr {
     pub prefix: Prefix,
     pub first: Term,
@@ -66,7 +66,7 @@ pub struct SumExpr {
 
 /// An adding operator, and the term behind it.
 #[cycle(expr)]
-#[derive(Debug, Drop)]
+#[derive(Drop)]
 pub struct AddPart {
     pub op: AddOp,
     pub right: Term,
@@ -74,7 +74,7 @@ pub struct AddPart {
 
 /// Factors with multiplying operators between.
 #[cycle(expr)]
-#[derive(Debug, Drop)]
+#[derive(Drop)]
 pub struct Term {
     pub first: Factor,
     pub rest: Items<MulPart>,
@@ -82,7 +82,7 @@ pub struct Term {
 
 /// A multiplying operator, and the factor behind it.
 #[cycle(expr)]
-#[derive(Debug, Drop)]
+#[derive(Drop)]
 pub struct MulPart {
     pub op: MulOp,
     pub right: Factor,
@@ -90,7 +90,7 @@ pub struct MulPart {
 
 /// A factor.
 #[cycle(expr)]
-#[derive(Debug, Drop)]
+#[derive(Drop)]
 pub enum Factor {
     Number(u16),
     /// A character string, without its quotes.
@@ -109,7 +109,7 @@ pub enum Factor {
 
 /// A member of a set, or a range of members.
 #[cycle(expr)]
-#[derive(Debug, Drop)]
+#[derive(Drop)]
 pub struct SetMember {
     pub first: Expr,
     pub last: Option<Expr>,
@@ -117,7 +117,7 @@ pub struct SetMember {
 
 /// An argument, with the width behind its colon if there is one.
 #[cycle(expr)]
-#[derive(Debug, Drop)]
+#[derive(Drop)]
 pub struct Arg {
     pub value: Expr,
     pub width: Option<Expr>,
@@ -125,7 +125,7 @@ pub struct Arg {
 
 /// An identifier, and how it goes on to a component.
 #[cycle(expr)]
-#[derive(Debug, Drop)]
+#[derive(Drop)]
 pub struct Access {
     pub ident: Text,
     pub parts: Items<AccessPart>,
@@ -133,7 +133,7 @@ pub struct Access {
 
 /// A step from a variable to a component.
 #[cycle(expr)]
-#[derive(Debug, Drop)]
+#[derive(Drop)]
 pub enum AccessPart {
     Index(Items<Expr>),
     Field(Text),

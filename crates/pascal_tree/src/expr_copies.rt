@@ -38,8 +38,8 @@ fn copy_rel(alloc: Global, rel: &RelPart) -> Result<RelPart, NoMemory>
 fn copy_sum(alloc: Global, sum: &SumExpr) -> Result<SumExpr, NoMemory>
     ensures { IfOk result (λ x. x ≡ sum.now) }
 {
-    let first = copy_term(alloc, &sum.first)?;
     let rest = copy_add_parts(alloc, sum.rest.as_slice())?;
+    let first = copy_term(alloc, &sum.first)?;
     Ok(SumExpr {
         prefix: sum.prefix,
         first,
@@ -70,8 +70,8 @@ fn copy_add_part(alloc: Global, part: &AddPart) -> Result<AddPart, NoMemory>
 fn copy_term(alloc: Global, term: &Term) -> Result<Term, NoMemory>
     ensures { IfOk result (λ x. x ≡ term.now) }
 {
-    let first = copy_factor(alloc, &term.first)?;
     let rest = copy_mul_parts(alloc, term.rest.as_slice())?;
+    let first = copy_factor(alloc, &term.first)?;
     Ok(Term { first, rest })
 }
 

@@ -26,7 +26,9 @@ pub use expr::{
     SetMember, SumExpr, Term,
 };
 pub use expr_copies::{copy_access, copy_accesses, copy_arg, copy_args, copy_expr};
-pub use program::{Header, Program};
+pub use program::{Header, Tree};
 pub use stmt::{Arm, Constant, Stmt, StmtKind};
-pub use stmt_copies::{copy_arm, copy_arms, copy_stmt, copy_stmt_kind, copy_stmts};
+pub use stmt_copies::{
+    copy_arm, copy_arms, copy_assign, copy_call, copy_stmt, copy_stmt_kind, copy_stmts, make_for,
+};
 pub use typing::{FieldText, TypeText};

@@ -4,8 +4,8 @@ use dice_base::Text;
 use sqlite_items::Items;
 
 /// A program (ISO 7185:1990, 6.10). Its own name is 1.
-#[derive(Debug, Drop)]
-pub struct Program {
+#[derive(Drop)]
+pub struct Tree {
     pub ident: Text,
     /// The program parameters.
     pub files: Items<Text>,
@@ -16,7 +16,7 @@ pub struct Program {
 
 /// A statement whose substatements are left out: in the place of each stands an empty statement without a label and
 /// with the name 0.
-#[derive(Debug, Drop)]
+#[derive(Drop)]
 pub struct Header {
     pub stmt: Stmt,
 }

@@ -4,7 +4,7 @@ use dice_base::{Name, Text};
 use sqlite_items::{Boxed, Items};
 
 /// A constant (ISO 7185:1990, 6.3).
-#[derive(Debug, Drop)]
+#[derive(Drop)]
 pub enum Constant {
     Number(Prefix, u16),
     Named(Prefix, Text),
@@ -14,7 +14,7 @@ pub enum Constant {
 
 /// A statement, with its name and the label that may stand before it.
 #[cycle(stmt)]
-#[derive(Debug, Drop)]
+#[derive(Drop)]
 pub struct Stmt {
     pub name: Name,
     pub label: Option<u16>,
@@ -23,7 +23,7 @@ pub struct Stmt {
 
 /// What a statement says.
 #[cycle(stmt)]
-#[derive(Debug, Drop)]
+#[derive(Drop)]
 pub enum StmtKind {
     Empty,
     Assign(Access, Expr),
@@ -41,7 +41,7 @@ pub enum StmtKind {
 
 /// An arm of a `case` statement.
 #[cycle(stmt)]
-#[derive(Debug, Drop)]
+#[derive(Drop)]
 pub struct Arm {
     pub constants: Items<Constant>,
     pub body: Stmt,

@@ -8,7 +8,8 @@ use dice_base::{NoMemory, Text};
 use sqlite_items::{Boxed, Items};
 use std::alloc::Global;
 
-fn copy_assign(alloc: Global, access: &Access, value: &Expr) -> Result<StmtKind, NoMemory>
+/// A copy of the parts of an assignment, put together.
+pub fn copy_assign(alloc: Global, access: &Access, value: &Expr) -> Result<StmtKind, NoMemory>
     ensures { IfOk result (λ x. x ≡ StmtKind.Assign access.now value.now) }
 {
     let access = copy_access(alloc, access)?;
@@ -16,7 +17,8 @@ fn copy_assign(alloc: Global, access: &Access, value: &Expr) -> Result<StmtKind,
     Ok(StmtKind::Assign(access, value))
 }
 
-fn copy_call(alloc: Global, ident: &Text, args: &[Arg]) -> Result<StmtKind, NoMemory>
+/// A copy of the parts of a procedure statement, put together.
+pub fn copy_call(alloc: Global, ident: &Text, args: &[Arg]) -> Result<StmtKind, NoMemory>
     ensures { IfOk result (λ x. x ≡ StmtKind.Call ident.now args.now) }
 {
     let ident = ident.copy(alloc)?;
@@ -24,7 +26,8 @@ fn copy_call(alloc: Global, ident: &Text, args: &[Arg]) -> Result<StmtKind, NoMe
     Ok(StmtKind::Call(ident, args))
 }
 
-fn make_for(
+/// A `for` statement with copies of all its parts but the body.
+pub fn make_for(
     alloc: Global,
     ident: &Text,
     first: &Expr,

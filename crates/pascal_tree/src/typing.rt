@@ -5,7 +5,7 @@ use sqlite_items::{Boxed, Items};
 
 /// A type. The bool of a structured type says that it is `packed`.
 #[cycle(typing)]
-#[derive(Debug, Drop)]
+#[derive(Drop)]
 pub enum TypeText {
     Named(Text),
     Enumeration(Items<Text>),
@@ -18,7 +18,7 @@ pub enum TypeText {
 
 /// Fields of one type.
 #[cycle(typing)]
-#[derive(Debug, Drop)]
+#[derive(Drop)]
 pub struct FieldText {
     pub idents: Items<Text>,
     pub shape: TypeText,

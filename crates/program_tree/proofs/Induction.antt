@@ -11,7 +11,7 @@ use Rattle.pascal_tree.specs.declared.decl.Decl.{Decl}
 use Rattle.pascal_tree.specs.declared.decl.Block.{Block, Block-F, roll-Block, out-roll-Block}
 use Rattle.pascal_tree.specs.declared.decl.Routine.{Routine, Routine-F, roll-Routine, out-roll-Routine}
 use Rattle.pascal_tree.specs.declared.decl.Block.TheFolds.{map-Block, map-Routine, ind-Block}
-use Rattle.pascal_tree.specs.declared.program.Program.{Program as Tree}
+use Rattle.pascal_tree.specs.declared.program.Tree.{Tree}
 use Rattle.pascal_tree.specs.Paths.{ItemValue, OfProgram, OfDecl, OfRoutine, OfStmt, kind_parts, arm_body, stmt_children, block_children, any_children, item_children}
 
 -- an item has it where its parts do

@@ -12,7 +12,7 @@ use Rattle.pascal_tree.specs.declared.decl.Decl.{Decl}
 use Rattle.pascal_tree.specs.declared.decl.Block.{Block, out-Block}
 use Rattle.pascal_tree.specs.declared.decl.Routine.{Routine, Routine-F, out-Routine}
 use Rattle.pascal_tree.specs.declared.decl.Block.TheFolds.{map-Routine, fold_out-Block, fold_out-Routine}
-use Rattle.pascal_tree.specs.declared.program.Program.{Program as Tree}
+use Rattle.pascal_tree.specs.declared.program.Tree.{Tree}
 use Rattle.pascal_tree.specs.Names.{any_names, of_kind, of_arm, of_stmt, stmt_names, kind_names, arm_names, decl_names, label_names, of_block, of_routine, block_names, routine_names, program_names}
 use Rattle.pascal_tree.specs.Paths.{ItemValue, OfProgram, OfDecl, OfRoutine, OfStmt, kind_parts, arm_body, stmt_children, block_children, any_children, item_children, item_name}
 use Rattle.pascal_tree.specs.Rows.{Row, rows_from, program_rows}

@@ -2,7 +2,7 @@
 use Rattle.std.proofs.Common.{◌≡◌, ◌≢◌, ℕ, suc, ◌<◌, List, [], ◌∷◌, Option, Some, None, Bool, true, false, map, length, nat_eq, option_map, option_and_then, refl, sym, ap, ◌∙◌, arith, MatchOption}
 use Rattle.std.specs.List.{AllByRecursion}
 use Rattle.std.proofs.lemmas.Bool.Decides.{nat_tests}
-use Rattle.pascal_tree.specs.declared.program.Program.{Program as Tree}
+use Rattle.pascal_tree.specs.declared.program.Tree.{Tree}
 use Rattle.pascal_tree.specs.Tokens.{Toks}
 use Rattle.program_tree.specs.declared.index.Entry.{Entry}
 use Rattle.program_tree.specs.declared.item.Item.{Item}

@@ -1,7 +1,7 @@
 -- The path of each row leads to an item with the row's name and own text.
 use Rattle.std.proofs.Common.{◌≡◌, ℕ, suc, ◌+◌, List, [], ◌∷◌, ◌++◌, Some, map, slice_get, option_and_then, refl, sym, ap, subst, ◌∙◌, add-zero, append-nil, append_assoc, arith}
 use Rattle.std.specs.List.{AllByRecursion}
-use Rattle.pascal_tree.specs.declared.program.Program.{Program as Tree}
+use Rattle.pascal_tree.specs.declared.program.Tree.{Tree}
 use Rattle.pascal_tree.specs.Paths.{ItemValue, OfProgram, item_children, item_name, item_at, tree_at}
 use Rattle.pascal_tree.specs.Rows.{Row, own_text, rows_from, program_rows}
 use Rattle.program_tree.specs.Found.{IsRowOf}

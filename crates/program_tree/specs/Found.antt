@@ -1,7 +1,7 @@
 -- What is found by a name is what the rows say.
 use Rattle.std.specs.Prelude.{◌≡◌, ◌≢◌, ℕ, List, Some, Contains, map, eqb}
 use Rattle.std.specs.List.{AllByRecursion, IsDistinct}
-use Rattle.pascal_tree.specs.declared.program.Program.{Program as Tree}
+use Rattle.pascal_tree.specs.declared.program.Tree.{Tree}
 use Rattle.pascal_tree.specs.Tokens.{Toks}
 use Rattle.pascal_tree.specs.Paths.{ItemValue, tree_at, item_name}
 use Rattle.pascal_tree.specs.Rows.{Row, own_text}

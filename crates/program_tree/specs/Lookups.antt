@@ -4,7 +4,7 @@ use Rattle.dice_base.specs.declared.name.Name.{Name}
 use Rattle.pascal_tree.specs.declared.stmt.Stmt.{Stmt, out-Stmt}
 use Rattle.pascal_tree.specs.declared.stmt.StmtKind.{StmtKind, StmtKind-F, out-StmtKind}
 use Rattle.pascal_tree.specs.declared.stmt.Arm.{Arm}
-use Rattle.pascal_tree.specs.declared.program.Program.{Program as Tree}
+use Rattle.pascal_tree.specs.declared.program.Tree.{Tree}
 use Rattle.program_tree.specs.declared.index.Entry.{Entry}
 use Rattle.program_tree.specs.declared.item.Item.{Item}
 use Rattle.program_tree.specs.declared.item.Item.TheVariants as item

@@ -1,7 +1,7 @@
 -- Programs whose items have names.
 use Rattle.std.specs.Prelude.{ℕ, ◌<◌, ◌≤◌, eqb}
 use Rattle.std.specs.List.{AllByRecursion, IsDistinct}
-use Rattle.pascal_tree.specs.declared.program.Program.{Program as Tree}
+use Rattle.pascal_tree.specs.declared.program.Tree.{Tree}
 use Rattle.pascal_tree.specs.Names.{program_names}
 
 -- a number that can name an item, where the next name is given

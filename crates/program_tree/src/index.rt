@@ -5,7 +5,7 @@ ghost use Rattle.pascal_tree.specs.Rows.{any_rows, arm_rows, block_rows, decl_ro
 ghost use Rattle.program_tree.specs.Entries.{AddsRows};
 
 use dice_base::{Name, NoMemory, one_more};
-use pascal_tree::{Arm, Block, Decl, Program as Tree, Routine, Stmt, StmtKind};
+use pascal_tree::{Arm, Block, Decl, Routine, Stmt, StmtKind, Tree};
 use sqlite_items::Items;
 use std::alloc::Global;
 

@@ -4,7 +4,7 @@ ghost use Rattle.program_tree.specs.Lookups.{at_place, is_sequence, item_value, 
 ghost use Rattle.pascal_tree.specs.Paths.{ItemValue, OfDecl, OfRoutine, OfStmt, arm_body, block_children, item_at, item_children, item_name, stmt_children};
 
 use dice_base::Name;
-use pascal_tree::{Arm, Block, Decl, Program as Tree, Routine, Stmt, StmtKind};
+use pascal_tree::{Arm, Block, Decl, Routine, Stmt, StmtKind, Tree};
 use sqlite_items::Boxed;
 
 /// An item of a program, with all that stands in it.

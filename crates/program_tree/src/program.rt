@@ -10,7 +10,7 @@ ghost use Rattle.program_tree.specs.Lookups.{around, item_named, item_value, pat
 use crate::index::{Entry, find_path, index_program};
 use crate::item::{Item, find_at, has_statements, name_of_item};
 use dice_base::{Name, NoMemory, Text};
-use pascal_tree::{Block, Program as Tree, copy_program};
+use pascal_tree::{Block, Tree, copy_program};
 use sqlite_items::Items;
 use std::alloc::Global;
 use std::marker::Model;
@@ -24,7 +24,7 @@ pub struct Program {
 
 impl Model for Program {
     ghost use Rattle.std.specs.Prelude.{◌≡◌};
-    ghost use Rattle.pascal_tree.specs.declared.program.Program.{Program as Tree};
+    ghost use Rattle.pascal_tree.specs.declared.program.Tree.{Tree};
     ghost use Rattle.program_tree.specs.Named.{IsNamed};
     ghost use Rattle.program_tree.specs.Lookups.{index_of};
     ghost use Rattle.pascal_tree.specs.contracts.decl.Block as block_type;

@@ -2,8 +2,8 @@
 use super::*;
 use dice_base::{Name, NoMemory, Text};
 use pascal_tree::{
-    Access, Block, Decl, DeclKind, Expr, Factor, Prefix, Program as Tree, Stmt, StmtKind, SumExpr,
-    Term, TypeText,
+    Access, Block, Decl, DeclKind, Expr, Factor, Prefix, Stmt, StmtKind, SumExpr, Term, Tree,
+    TypeText,
 };
 use sqlite_items::Items;
 use std::alloc::Global;

@@ -10,7 +10,7 @@ use Rattle.pascal_semantics.specs.Valid.{IsFree, AllDiffer}
 use Rattle.pascal_tree.specs.declared.stmt.Stmt.{Stmt}
 use Rattle.pascal_tree.specs.declared.decl.Block.{Block, out-Block}
 use Rattle.pascal_tree.specs.declared.decl.Block.TheFolds.{fold_out-Block}
-use Rattle.pascal_tree.specs.declared.program.Program.{Program as Tree}
+use Rattle.pascal_tree.specs.declared.program.Tree.{Tree}
 use Rattle.pascal_tree.specs.Names.{of_block, of_routine, label_names, decl_names, stmt_names, block_names, routine_names, program_names}
 use Rattle.program_tree.specs.Named.{IsNamed, IsNameBelow}
 use Rattle.simple_form.specs.declared.program.SimpleProgram.{SimpleProgram}

@@ -26,7 +26,7 @@ use Rattle.pascal_tree.specs.declared.decl.Decl.{Decl}
 use Rattle.pascal_tree.specs.declared.decl.DeclKind.{DeclKind}
 use Rattle.pascal_tree.specs.declared.decl.DeclKind.TheVariants.{VarDecl}
 use Rattle.pascal_tree.specs.declared.decl.Block.{Block, out-Block}
-use Rattle.pascal_tree.specs.declared.program.Program.{Program as Tree}
+use Rattle.pascal_tree.specs.declared.program.Tree.{Tree}
 use Rattle.pascal_semantics.specs.declared.form.Operand.{Operand}
 use Rattle.pascal_semantics.specs.declared.form.Operand.TheVariants.{Global, Number}
 use Rattle.pascal_semantics.specs.declared.form.Sum.{Sum}

@@ -10,7 +10,7 @@ use crate::operands::number_of;
 use crate::statements::push_stmt;
 use dice_base::{NoMemory, Text};
 use pascal_semantics::Statement;
-use pascal_tree::{Block, Decl, DeclKind, Program as Tree, Stmt, TypeText};
+use pascal_tree::{Block, Decl, DeclKind, Stmt, Tree, TypeText};
 use program_tree::Program;
 use std::alloc::Global;
 

@@ -4,8 +4,8 @@ use crate::statements::push_stmt;
 use dice_base::{Name, NoMemory, Text};
 use pascal_semantics::{Operand, SimpleForm, Statement, Sum};
 use pascal_tree::{
-    Access, AddOp, AddPart, Arg, Block, Decl, DeclKind, Expr, Factor, Prefix, Program as Tree,
-    Stmt, StmtKind, SumExpr, Term, TypeText,
+    Access, AddOp, AddPart, Arg, Block, Decl, DeclKind, Expr, Factor, Prefix, Stmt, StmtKind,
+    SumExpr, Term, Tree, TypeText,
 };
 use program_tree::Program;
 use sqlite_items::Items;

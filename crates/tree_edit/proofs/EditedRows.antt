@@ -2,8 +2,8 @@
 use Rattle.std.proofs.Common.{◌≡◌, ℕ, zero, suc, Bool, true, false, List, [], ◌∷◌, Option, Some, None, Result, Ok, Err, refl, ap, ◌∙◌, subst}
 use Rattle.std.specs.Prelude.{slice_get, option_and_then, if◌then◌else◌, nat_lt, length}
 use Rattle.pascal_tree.specs.declared.stmt.Stmt.{Stmt, out-Stmt}
-use Rattle.pascal_tree.specs.declared.program.Program.{Program as Tree}
-use Rattle.pascal_tree.specs.Names.{names_within, renamed}
+use Rattle.pascal_tree.specs.declared.program.Tree.{Tree}
+use Rattle.pascal_tree.specs.Names.{names_within, stmt_renaming}
 use Rattle.pascal_tree.specs.Paths.{ItemValue, OfProgram, OfDecl, OfRoutine, OfStmt, item_children, item_at, tree_at}
 use Rattle.pascal_tree.specs.Rows.{program_rows}
 use Rattle.program_tree.specs.Lookups.{name_of, path_of}
@@ -62,7 +62,7 @@ chosen false b2 b3 n v u e = absurd cc
 
 stmt_rows_edited : (old : Stmt) (path : List ℕ) (n : ℕ) (s : Stmt) (t u : Tree) → tree_at path t ≡ Some (OfStmt old) → replaced_stmt old path n s t ≡ Ok u → IsEditedRows t u
 stmt_rows_edited old path n s t u at e =
-    (let r = renamed (out-Stmt old).name.0 s t.next in
+    (let r = stmt_renaming (out-Stmt old).name.0 s t.next in
     let same = chosen (can_stand path s t.block) (nat_lt 64 (last_level path s)) (are_spent t.next (length (names_within s))) n (with_stmt path r t) u e in
     subst (λ (v : Tree). IsEditedRows t v) same (put_rows path old r.0 r.1 t at (rows_split path old (OfProgram t) [] at)))
 

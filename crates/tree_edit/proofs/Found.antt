@@ -1,7 +1,7 @@
 -- The outcome of an edit, by what bears the name.
 use Rattle.std.proofs.Common.{◌≡◌, ℕ, List, Option, Some, None, Result, Err, ap, ◌∙◌, sym, subst}
 use Rattle.pascal_tree.specs.declared.stmt.Stmt.{Stmt}
-use Rattle.pascal_tree.specs.declared.program.Program.{Program as Tree}
+use Rattle.pascal_tree.specs.declared.program.Tree.{Tree}
 use Rattle.pascal_tree.specs.Paths.{ItemValue, tree_at}
 use Rattle.program_tree.specs.Lookups.{name_of, path_of, item_named}
 use Rattle.tree_edit.specs.declared.fault.EditFault.{EditFault}

@@ -2,7 +2,7 @@
 use Rattle.std.proofs.Common.{◌≡◌, ℕ, ◌+◌, ◌≤◌, List, [], ◌∷◌, ◌++◌, Some, ◌∙◌, sym, subst, arith, append_assoc, eqb}
 use Rattle.std.specs.List.{AllByRecursion, IsDistinct}
 use Rattle.pascal_tree.specs.declared.stmt.Stmt.{Stmt, out-Stmt}
-use Rattle.pascal_tree.specs.declared.program.Program.{Program as Tree}
+use Rattle.pascal_tree.specs.declared.program.Tree.{Tree}
 use Rattle.pascal_tree.specs.Names.{Counts, names_within, stmt_names, program_names}
 use Rattle.program_tree.specs.Named.{IsNamed, IsNameBelow}
 use Rattle.pascal_tree.specs.Paths.{OfProgram, OfStmt, tree_at}

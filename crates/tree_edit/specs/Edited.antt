@@ -4,8 +4,8 @@ use Rattle.pascal_tree.specs.declared.stmt.Stmt.{Stmt, out-Stmt}
 use Rattle.pascal_tree.specs.declared.stmt.StmtKind.{StmtKind, StmtKind-F, out-StmtKind}
 use Rattle.pascal_tree.specs.declared.stmt.Arm.{Arm}
 use Rattle.pascal_tree.specs.declared.decl.Block.{Block}
-use Rattle.pascal_tree.specs.declared.program.Program.{Program as Tree}
-use Rattle.pascal_tree.specs.Names.{names_within, renamed}
+use Rattle.pascal_tree.specs.declared.program.Tree.{Tree}
+use Rattle.pascal_tree.specs.Names.{names_within, stmt_renaming}
 use Rattle.pascal_tree.specs.Paths.{ItemValue, OfStmt, tree_at}
 use Rattle.pascal_tree.specs.Rows.{Row, stmt_rows, program_rows}
 use Rattle.program_tree.specs.Lookups.{name_of, path_of}
@@ -51,7 +51,7 @@ replaced_stmt old path n s t =
     if can_stand path s t.block then
     (if nat_lt 64 (last_level path s) then Err TooDeep
     else (if are_spent t.next (length (names_within s)) then Err NamesSpent
-    else Ok (with_stmt path (renamed (out-Stmt old).name.0 s t.next) t)))
+    else Ok (with_stmt path (stmt_renaming (out-Stmt old).name.0 s t.next) t)))
     else Err (WrongKind (name_of n))
 
 -- the item as a statement, if it is one

@@ -3,7 +3,7 @@ ghost use Rattle.std.specs.Prelude.{◌≡◌, IfOk, OnErr, OnOk, Some, option_c
 ghost use Rattle.program_tree.specs.Lookups.{item_value};
 ghost use Rattle.program_tree.specs.Named.{IsNamed};
 ghost use Rattle.pascal_tree.specs.Paths.{OfStmt, tree_at};
-ghost use Rattle.pascal_tree.specs.Names.{Counts, names_within, renamed};
+ghost use Rattle.pascal_tree.specs.Names.{Counts, names_within, stmt_renaming};
 ghost use Rattle.pascal_tree.specs.declared.stmt.Stmt.{out-Stmt};
 ghost use Rattle.tree_edit.specs.Edited.{Edits, Gives, IsEditedRows, replaced_program, replaced_stmt, stmt_of, with_stmt};
 
@@ -61,7 +61,7 @@ fn with_renamed(
     stmt: &Stmt,
 ) -> Result<Program, NoMemory>
     requires { tree_at path.now program.now ≡ Some (OfStmt old.now) }
-    ensures { IfOk result (λ p. p ≡ with_stmt path.now (renamed (out-Stmt old.now).name.0 stmt.now program.now.next) program.now) }
+    ensures { IfOk result (λ p. p ≡ with_stmt path.now (stmt_renaming (out-Stmt old.now).name.0 stmt.now program.now.next) program.now) }
 {
     let (named, next) = name_stmt(alloc, old.name, stmt, program.next_name())?;
     with_named(alloc, program, path, old, &named, next)

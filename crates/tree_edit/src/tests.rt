@@ -1,7 +1,7 @@
 //! Replacements in a small program.
 use crate::{EditFault, replace};
 use dice_base::{Name, NoMemory, Text};
-use pascal_tree::{Block, Decl, DeclKind, Program as Tree, Stmt, StmtKind, TypeText};
+use pascal_tree::{Block, Decl, DeclKind, Stmt, StmtKind, Tree, TypeText};
 use program_tree::{Item, Program};
 use sqlite_items::Items;
 use std::alloc::Global;

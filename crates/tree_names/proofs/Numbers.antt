@@ -1,5 +1,5 @@
 -- Items in front of what a numbering gives.
 use Rattle.std.proofs.Common.{ℕ, List, ◌++◌}
 
-abbrev pub behind : {A : Type 0} → List A → List A × ℕ → List A × ℕ
-behind front r = (front ++ r.0, r.1)
+abbrev pub with_front : {A : Type 0} → List A → List A × ℕ → List A × ℕ
+with_front front r = (front ++ r.0, r.1)

@@ -9,8 +9,8 @@ use Rattle.pascal_tree.specs.declared.stmt.StmtKind.{StmtKind, StmtKind-F, roll-
 use Rattle.pascal_tree.specs.declared.stmt.Arm.{Arm, Arm-F, roll-Arm}
 use Rattle.pascal_tree.specs.declared.stmt.StmtKind.TheVariants as s
 use Rattle.pascal_tree.specs.declared.stmt.StmtKind.TheFolds.{map-StmtKind, map-Arm, map-Stmt, fold-roll-StmtKind, fold-roll-Arm, fold-roll-Stmt, ind-StmtKind, ind-Stmt}
-use Rattle.pascal_tree.specs.Naming.{Numbering, in_turn, in_kind, in_arm, in_stmt, stmt_numbered, kind_numbered, arm_numbered}
-use Rattle.pascal_tree.specs.Names.{Counts, names_within, renamed, of_kind, of_arm, of_stmt, stmt_names, kind_names, arm_names}
+use Rattle.pascal_tree.specs.Naming.{Numbering, list_numbering, kind_in_turn, arm_in_turn, stmt_in_turn, stmt_numbering, kind_numbering, arm_numbering}
+use Rattle.pascal_tree.specs.Names.{Counts, names_within, stmt_renaming, of_kind, of_arm, of_stmt, stmt_names, kind_names, arm_names}
 
 -- ---- numbers in turn
 
@@ -23,23 +23,23 @@ abbrev pub Proper : {A : Type 0} → (A → List ℕ) → Numbering A → Type 0
 Proper names f = (n : ℕ) → Counts n (names (f n).0) (f n).1
 
 pub counts_turn : {A : Type 0} (names : A → List ℕ) (f : A → Numbering A) (es : List ((a : A) × Proper names (f a))) (n : ℕ)
-    → Counts n (concat (map names (in_turn (map f (map (λ e. e.0) es)) n).0)) (in_turn (map f (map (λ e. e.0) es)) n).1
+    → Counts n (concat (map names (list_numbering (map f (map (λ e. e.0) es)) n).0)) (list_numbering (map f (map (λ e. e.0) es)) n).1
 counts_turn names f [] n = refl
 counts_turn names f (e ∷ es) n = counts_append n (f e.0 n).1 _ _ _ (e.1 n) (counts_turn names f es (f e.0 n).1)
 
 -- ---- statements
 
-numbered_kind : (x : StmtKind-F StmtKind Arm Stmt) (n : ℕ) → kind_numbered (roll-StmtKind x) n ≡ in_kind (map-StmtKind StmtKind Arm Stmt (Numbering StmtKind) (Numbering Arm) (Numbering Stmt) kind_numbered arm_numbered stmt_numbered x) n
-unfolding kind_numbered arm_numbered stmt_numbered
-numbered_kind x n = ap (λ (f : Numbering StmtKind). f n) (fold-roll-StmtKind (Numbering StmtKind) (Numbering Arm) (Numbering Stmt) in_kind in_arm in_stmt x)
+numbered_kind : (x : StmtKind-F StmtKind Arm Stmt) (n : ℕ) → kind_numbering (roll-StmtKind x) n ≡ kind_in_turn (map-StmtKind StmtKind Arm Stmt (Numbering StmtKind) (Numbering Arm) (Numbering Stmt) kind_numbering arm_numbering stmt_numbering x) n
+unfolding kind_numbering arm_numbering stmt_numbering
+numbered_kind x n = ap (λ (f : Numbering StmtKind). f n) (fold-roll-StmtKind (Numbering StmtKind) (Numbering Arm) (Numbering Stmt) kind_in_turn arm_in_turn stmt_in_turn x)
 
-numbered_arm : (x : Arm-F StmtKind Arm Stmt) (n : ℕ) → arm_numbered (roll-Arm x) n ≡ in_arm (map-Arm StmtKind Arm Stmt (Numbering StmtKind) (Numbering Arm) (Numbering Stmt) kind_numbered arm_numbered stmt_numbered x) n
-unfolding kind_numbered arm_numbered stmt_numbered
-numbered_arm x n = ap (λ (f : Numbering Arm). f n) (fold-roll-Arm (Numbering StmtKind) (Numbering Arm) (Numbering Stmt) in_kind in_arm in_stmt x)
+numbered_arm : (x : Arm-F StmtKind Arm Stmt) (n : ℕ) → arm_numbering (roll-Arm x) n ≡ arm_in_turn (map-Arm StmtKind Arm Stmt (Numbering StmtKind) (Numbering Arm) (Numbering Stmt) kind_numbering arm_numbering stmt_numbering x) n
+unfolding kind_numbering arm_numbering stmt_numbering
+numbered_arm x n = ap (λ (f : Numbering Arm). f n) (fold-roll-Arm (Numbering StmtKind) (Numbering Arm) (Numbering Stmt) kind_in_turn arm_in_turn stmt_in_turn x)
 
-numbered_stmt : (x : Stmt-F StmtKind Arm Stmt) (n : ℕ) → stmt_numbered (roll-Stmt x) n ≡ in_stmt (map-Stmt StmtKind Arm Stmt (Numbering StmtKind) (Numbering Arm) (Numbering Stmt) kind_numbered arm_numbered stmt_numbered x) n
-unfolding kind_numbered arm_numbered stmt_numbered
-numbered_stmt x n = ap (λ (f : Numbering Stmt). f n) (fold-roll-Stmt (Numbering StmtKind) (Numbering Arm) (Numbering Stmt) in_kind in_arm in_stmt x)
+numbered_stmt : (x : Stmt-F StmtKind Arm Stmt) (n : ℕ) → stmt_numbering (roll-Stmt x) n ≡ stmt_in_turn (map-Stmt StmtKind Arm Stmt (Numbering StmtKind) (Numbering Arm) (Numbering Stmt) kind_numbering arm_numbering stmt_numbering x) n
+unfolding kind_numbering arm_numbering stmt_numbering
+numbered_stmt x n = ap (λ (f : Numbering Stmt). f n) (fold-roll-Stmt (Numbering StmtKind) (Numbering Arm) (Numbering Stmt) kind_in_turn arm_in_turn stmt_in_turn x)
 
 names_kind : (x : StmtKind-F StmtKind Arm Stmt) → kind_names (roll-StmtKind x) ≡ of_kind (map-StmtKind StmtKind Arm Stmt (List ℕ) (List ℕ) (List ℕ) kind_names arm_names stmt_names x)
 unfolding kind_names arm_names stmt_names
@@ -54,13 +54,13 @@ unfolding kind_names arm_names stmt_names
 names_stmt x = fold-roll-Stmt (List ℕ) (List ℕ) (List ℕ) of_kind of_arm of_stmt x
 
 abbrev ProperKind : StmtKind → Type 0
-ProperKind k = Proper kind_names (kind_numbered k)
+ProperKind k = Proper kind_names (kind_numbering k)
 
 abbrev ProperArm : Arm → Type 0
-ProperArm a = Proper arm_names (arm_numbered a)
+ProperArm a = Proper arm_names (arm_numbering a)
 
 abbrev ProperStmt : Stmt → Type 0
-ProperStmt x = Proper stmt_names (stmt_numbered x)
+ProperStmt x = Proper stmt_names (stmt_numbering x)
 
 -- a layer whose parts are numbered properly
 abbrev Kinds : Type 0
@@ -113,12 +113,12 @@ kind_step StmtKind-F.Empty n = rw (numbered_kind StmtKind-F.Empty n, names_empty
 kind_step (StmtKind-F.Assign a e) n = rw (numbered_kind (StmtKind-F.Assign a e) n, names_assign a e) refl
 kind_step (StmtKind-F.Call x args) n = rw (numbered_kind (StmtKind-F.Call x args) n, names_call x args) refl
 kind_step (StmtKind-F.Goto label) n = rw (numbered_kind (StmtKind-F.Goto label) n, names_goto label) refl
-kind_step (StmtKind-F.Compound es) n = rw (numbered_kind (StmtKind-F.Compound (map (λ e. e.0) es)) n, names_compound) (counts_turn stmt_names stmt_numbered es n)
+kind_step (StmtKind-F.Compound es) n = rw (numbered_kind (StmtKind-F.Compound (map (λ e. e.0) es)) n, names_compound) (counts_turn stmt_names stmt_numbering es n)
 kind_step (StmtKind-F.If e x None) n = rw (numbered_kind (StmtKind-F.If e x.0 None) n, names_if, append-nil) (x.1 n)
-kind_step (StmtKind-F.If e x (Some y)) n = rw (numbered_kind (StmtKind-F.If e x.0 (Some y.0)) n, names_if_else) (counts_append n (stmt_numbered x.0 n).1 _ _ _ (x.1 n) (y.1 (stmt_numbered x.0 n).1))
-kind_step (StmtKind-F.Case e es) n = rw (numbered_kind (StmtKind-F.Case e (map (λ e. e.0) es)) n, names_case) (counts_turn arm_names arm_numbered es n)
+kind_step (StmtKind-F.If e x (Some y)) n = rw (numbered_kind (StmtKind-F.If e x.0 (Some y.0)) n, names_if_else) (counts_append n (stmt_numbering x.0 n).1 _ _ _ (x.1 n) (y.1 (stmt_numbering x.0 n).1))
+kind_step (StmtKind-F.Case e es) n = rw (numbered_kind (StmtKind-F.Case e (map (λ e. e.0) es)) n, names_case) (counts_turn arm_names arm_numbering es n)
 kind_step (StmtKind-F.While e x) n = rw (numbered_kind (StmtKind-F.While e x.0) n, names_while) (x.1 n)
-kind_step (StmtKind-F.Repeat es e) n = rw (numbered_kind (StmtKind-F.Repeat (map (λ e. e.0) es) e) n, names_repeat) (counts_turn stmt_names stmt_numbered es n)
+kind_step (StmtKind-F.Repeat es e) n = rw (numbered_kind (StmtKind-F.Repeat (map (λ e. e.0) es) e) n, names_repeat) (counts_turn stmt_names stmt_numbering es n)
 kind_step (StmtKind-F.For v first down last x) n = rw (numbered_kind (StmtKind-F.For v first down last x.0) n, names_for) (x.1 n)
 kind_step (StmtKind-F.With records x) n = rw (numbered_kind (StmtKind-F.With records x.0) n, names_with) (x.1 n)
 
@@ -140,5 +140,5 @@ proper_kind = ind-StmtKind ProperKind ProperArm ProperStmt
     (λ x y is. subst (λ z. ProperArm (roll-Arm z)) is (arm_step y))
     (λ x y is. subst (λ z. ProperStmt (roll-Stmt z)) is (stmt_step y))
 
-pub renamed_names : (name : ℕ) (x : Stmt) (n : ℕ) → Counts n (names_within (renamed name x n).0) (renamed name x n).1
-renamed_names name x n = proper_kind (out-Stmt x).kind n
+pub renaming_names : (name : ℕ) (x : Stmt) (n : ℕ) → Counts n (names_within (stmt_renaming name x n).0) (stmt_renaming name x n).1
+renaming_names name x n = proper_kind (out-Stmt x).kind n

@@ -9,7 +9,7 @@ const MOST: u32 = 2_000_000;
 
 // What is left of the room for names where the statement took its names from it.
 #[cycle(behind_stmt)]
-#[tactic(auto, unfolding(crate::specs::Names::stmt_names, crate::specs::Names::kind_names, crate::specs::Names::arm_names))]
+#[tactic(auto, unfolding(pascal_tree::specs::Names::stmt_names, pascal_tree::specs::Names::kind_names, pascal_tree::specs::Names::arm_names))]
 fn behind_stmt(stmt: &Stmt, room: u32) -> u32
     ensures { result ≡ room - length (stmt_names stmt.now) }
 {
@@ -17,7 +17,7 @@ fn behind_stmt(stmt: &Stmt, room: u32) -> u32
 }
 
 #[cycle(behind_stmt)]
-#[tactic(auto, unfolding(crate::specs::Names::stmt_names, crate::specs::Names::kind_names, crate::specs::Names::arm_names))]
+#[tactic(auto, unfolding(pascal_tree::specs::Names::stmt_names, pascal_tree::specs::Names::kind_names, pascal_tree::specs::Names::arm_names))]
 fn behind_kind(kind: &StmtKind, room: u32) -> u32
     ensures { result ≡ room - length (kind_names kind.now) }
 {
@@ -38,7 +38,7 @@ fn behind_kind(kind: &StmtKind, room: u32) -> u32
 }
 
 #[cycle(behind_stmt)]
-#[tactic(auto, unfolding(crate::specs::Names::stmt_names, crate::specs::Names::kind_names, crate::specs::Names::arm_names))]
+#[tactic(auto, unfolding(pascal_tree::specs::Names::stmt_names, pascal_tree::specs::Names::kind_names, pascal_tree::specs::Names::arm_names))]
 fn behind_stmts(stmts: &[Stmt], room: u32) -> u32
     ensures { result ≡ room - length (concat (map stmt_names stmts.now)) }
 {
@@ -50,7 +50,7 @@ fn behind_stmts(stmts: &[Stmt], room: u32) -> u32
 }
 
 #[cycle(behind_stmt)]
-#[tactic(auto, unfolding(crate::specs::Names::stmt_names, crate::specs::Names::kind_names, crate::specs::Names::arm_names))]
+#[tactic(auto, unfolding(pascal_tree::specs::Names::stmt_names, pascal_tree::specs::Names::kind_names, pascal_tree::specs::Names::arm_names))]
 fn behind_arm(arm: &Arm, room: u32) -> u32
     ensures { result ≡ room - length (arm_names arm.now) }
 {
@@ -58,7 +58,7 @@ fn behind_arm(arm: &Arm, room: u32) -> u32
 }
 
 #[cycle(behind_stmt)]
-#[tactic(auto, unfolding(crate::specs::Names::stmt_names, crate::specs::Names::kind_names, crate::specs::Names::arm_names))]
+#[tactic(auto, unfolding(pascal_tree::specs::Names::stmt_names, pascal_tree::specs::Names::kind_names, pascal_tree::specs::Names::arm_names))]
 fn behind_arms(arms: &[Arm], room: u32) -> u32
     ensures { result ≡ room - length (concat (map arm_names arms.now)) }
 {

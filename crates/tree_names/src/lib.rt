@@ -6,6 +6,3 @@ mod naming;
 
 pub use counting::new_names;
 pub use naming::{name_stmt, number_program};
-
-#[cfg(test)]
-mod tests;

@@ -1,66 +1,34 @@
 //! Names in text order.
 ghost use Rattle.std.specs.Prelude.{◌≡◌, ◌+◌, IfOk};
 ghost use Rattle.pascal_tree.specs.Naming as spec;
-ghost use Rattle.pascal_tree.specs.Names.{Counts, names_within, program_names, renamed};
+ghost use Rattle.pascal_tree.specs.Names.{Counts, names_within, program_names, stmt_renaming};
 
 use dice_base::{Name, NoMemory, Text, one_more};
 use pascal_tree::{
-    Access, Arg, Arm, Block, Decl, Expr, Program, Routine, Stmt, StmtKind, copy_access,
-    copy_accesses, copy_args, copy_constants, copy_decl_kind, copy_expr, copy_heading, copy_texts,
+    Access, Arm, Block, Decl, Expr, Routine, Stmt, StmtKind, Tree, copy_accesses, copy_assign,
+    copy_call, copy_constants, copy_decl_kind, copy_expr, copy_heading, copy_texts, make_for,
 };
 use sqlite_items::{Boxed, Items};
 use std::alloc::Global;
 
-fn copy_assign(alloc: Global, access: &Access, value: &Expr) -> Result<StmtKind, NoMemory>
-    ensures { IfOk result (λ r. r ≡ StmtKind.Assign access.now value.now) }
-{
-    let access = copy_access(alloc, access)?;
-    let value = copy_expr(alloc, value)?;
-    Ok(StmtKind::Assign(access, value))
-}
-
-fn copy_call(alloc: Global, ident: &Text, args: &[Arg]) -> Result<StmtKind, NoMemory>
-    ensures { IfOk result (λ r. r ≡ StmtKind.Call ident.now args.now) }
-{
-    let ident = ident.copy(alloc)?;
-    let args = copy_args(alloc, args)?;
-    Ok(StmtKind::Call(ident, args))
-}
-
-fn make_for(
-    alloc: Global,
-    ident: &Text,
-    first: &Expr,
-    down: bool,
-    last: &Expr,
-    body: Boxed<Stmt>,
-) -> Result<StmtKind, NoMemory>
-    ensures { IfOk result (λ r. r ≡ StmtKind.For ident.now first.now down last.now body) }
-{
-    let ident = ident.copy(alloc)?;
-    let first = copy_expr(alloc, first)?;
-    let last = copy_expr(alloc, last)?;
-    Ok(StmtKind::For(ident, first, down, last, body))
-}
-
 #[cycle(number_stmt)]
-#[tactic(auto, unfolding(crate::specs::Naming::stmt_numbered, crate::specs::Naming::kind_numbered, crate::specs::Naming::arm_numbered))]
+#[tactic(auto, unfolding(pascal_tree::specs::Naming::stmt_numbering, pascal_tree::specs::Naming::kind_numbering, pascal_tree::specs::Naming::arm_numbering))]
 fn number_compound(alloc: Global, stmts: &[Stmt], next: u32) -> Result<(StmtKind, u32), NoMemory>
-    ensures { IfOk result (λ r. r ≡ spec.kind_numbered (StmtKind.Compound stmts.now) next) }
+    ensures { IfOk result (λ r. r ≡ spec.kind_numbering (StmtKind.Compound stmts.now) next) }
 {
     let (stmts, next) = number_stmts(alloc, stmts, next)?;
     Ok((StmtKind::Compound(stmts), next))
 }
 
 #[cycle(number_stmt)]
-#[tactic(auto, unfolding(crate::specs::Naming::stmt_numbered, crate::specs::Naming::kind_numbered, crate::specs::Naming::arm_numbered))]
+#[tactic(auto, unfolding(pascal_tree::specs::Naming::stmt_numbering, pascal_tree::specs::Naming::kind_numbering, pascal_tree::specs::Naming::arm_numbering))]
 fn number_case(
     alloc: Global,
     arms: &[Arm],
     selector: &Expr,
     next: u32,
 ) -> Result<(StmtKind, u32), NoMemory>
-    ensures { IfOk result (λ r. r ≡ spec.kind_numbered (StmtKind.Case selector.now arms.now) next) }
+    ensures { IfOk result (λ r. r ≡ spec.kind_numbering (StmtKind.Case selector.now arms.now) next) }
 {
     let (arms, next) = number_arms(alloc, arms, next)?;
     let selector = copy_expr(alloc, selector)?;
@@ -68,14 +36,14 @@ fn number_case(
 }
 
 #[cycle(number_stmt)]
-#[tactic(auto, unfolding(crate::specs::Naming::stmt_numbered, crate::specs::Naming::kind_numbered, crate::specs::Naming::arm_numbered))]
+#[tactic(auto, unfolding(pascal_tree::specs::Naming::stmt_numbering, pascal_tree::specs::Naming::kind_numbering, pascal_tree::specs::Naming::arm_numbering))]
 fn number_while(
     alloc: Global,
     body: &Stmt,
     test: &Expr,
     next: u32,
 ) -> Result<(StmtKind, u32), NoMemory>
-    ensures { IfOk result (λ r. r ≡ spec.kind_numbered (StmtKind.While test.now body.now) next) }
+    ensures { IfOk result (λ r. r ≡ spec.kind_numbering (StmtKind.While test.now body.now) next) }
 {
     let (body, next) = number_boxed(alloc, body, next)?;
     let test = copy_expr(alloc, test)?;
@@ -83,14 +51,14 @@ fn number_while(
 }
 
 #[cycle(number_stmt)]
-#[tactic(auto, unfolding(crate::specs::Naming::stmt_numbered, crate::specs::Naming::kind_numbered, crate::specs::Naming::arm_numbered))]
+#[tactic(auto, unfolding(pascal_tree::specs::Naming::stmt_numbering, pascal_tree::specs::Naming::kind_numbering, pascal_tree::specs::Naming::arm_numbering))]
 fn number_repeat(
     alloc: Global,
     stmts: &[Stmt],
     test: &Expr,
     next: u32,
 ) -> Result<(StmtKind, u32), NoMemory>
-    ensures { IfOk result (λ r. r ≡ spec.kind_numbered (StmtKind.Repeat stmts.now test.now) next) }
+    ensures { IfOk result (λ r. r ≡ spec.kind_numbering (StmtKind.Repeat stmts.now test.now) next) }
 {
     let (stmts, next) = number_stmts(alloc, stmts, next)?;
     let test = copy_expr(alloc, test)?;
@@ -98,7 +66,7 @@ fn number_repeat(
 }
 
 #[cycle(number_stmt)]
-#[tactic(auto, unfolding(crate::specs::Naming::stmt_numbered, crate::specs::Naming::kind_numbered, crate::specs::Naming::arm_numbered))]
+#[tactic(auto, unfolding(pascal_tree::specs::Naming::stmt_numbering, pascal_tree::specs::Naming::kind_numbering, pascal_tree::specs::Naming::arm_numbering))]
 fn number_for(
     alloc: Global,
     body: &Stmt,
@@ -108,7 +76,7 @@ fn number_for(
     last: &Expr,
     next: u32,
 ) -> Result<(StmtKind, u32), NoMemory>
-    ensures { IfOk result (λ r. r ≡ spec.kind_numbered (StmtKind.For ident.now first.now down last.now body.now) next) }
+    ensures { IfOk result (λ r. r ≡ spec.kind_numbering (StmtKind.For ident.now first.now down last.now body.now) next) }
 {
     let (body, next) = number_boxed(alloc, body, next)?;
     let kind = make_for(alloc, ident, first, down, last, body)?;
@@ -116,14 +84,14 @@ fn number_for(
 }
 
 #[cycle(number_stmt)]
-#[tactic(auto, unfolding(crate::specs::Naming::stmt_numbered, crate::specs::Naming::kind_numbered, crate::specs::Naming::arm_numbered))]
+#[tactic(auto, unfolding(pascal_tree::specs::Naming::stmt_numbering, pascal_tree::specs::Naming::kind_numbering, pascal_tree::specs::Naming::arm_numbering))]
 fn number_with(
     alloc: Global,
     body: &Stmt,
     records: &[Access],
     next: u32,
 ) -> Result<(StmtKind, u32), NoMemory>
-    ensures { IfOk result (λ r. r ≡ spec.kind_numbered (StmtKind.With records.now body.now) next) }
+    ensures { IfOk result (λ r. r ≡ spec.kind_numbering (StmtKind.With records.now body.now) next) }
 {
     let (body, next) = number_boxed(alloc, body, next)?;
     let records = copy_accesses(alloc, records)?;
@@ -131,9 +99,9 @@ fn number_with(
 }
 
 #[cycle(number_stmt)]
-#[tactic(auto, unfolding(crate::specs::Naming::stmt_numbered, crate::specs::Naming::kind_numbered, crate::specs::Naming::arm_numbered))]
+#[tactic(auto, unfolding(pascal_tree::specs::Naming::stmt_numbering, pascal_tree::specs::Naming::kind_numbering, pascal_tree::specs::Naming::arm_numbering))]
 fn number_if(alloc: Global, yes: &Stmt, test: &Expr, next: u32) -> Result<(StmtKind, u32), NoMemory>
-    ensures { IfOk result (λ r. r ≡ spec.kind_numbered (StmtKind.If test.now yes.now None) next) }
+    ensures { IfOk result (λ r. r ≡ spec.kind_numbering (StmtKind.If test.now yes.now None) next) }
 {
     let (yes, next) = number_boxed(alloc, yes, next)?;
     let test = copy_expr(alloc, test)?;
@@ -142,7 +110,7 @@ fn number_if(alloc: Global, yes: &Stmt, test: &Expr, next: u32) -> Result<(StmtK
 
 #[cycle(number_stmt)]
 fn number_stmts(alloc: Global, stmts: &[Stmt], next: u32) -> Result<(Items<Stmt>, u32), NoMemory>
-    ensures { IfOk result (λ r. r ≡ spec.stmts_numbered stmts.now next) }
+    ensures { IfOk result (λ r. r ≡ spec.stmts_numbering stmts.now next) }
 {
     let mut all = Items::new(alloc);
     let mut next = next;
@@ -155,9 +123,9 @@ fn number_stmts(alloc: Global, stmts: &[Stmt], next: u32) -> Result<(Items<Stmt>
 }
 
 #[cycle(number_stmt)]
-#[tactic(auto, unfolding(crate::specs::Naming::stmt_numbered, crate::specs::Naming::kind_numbered, crate::specs::Naming::arm_numbered))]
+#[tactic(auto, unfolding(pascal_tree::specs::Naming::stmt_numbering, pascal_tree::specs::Naming::kind_numbering, pascal_tree::specs::Naming::arm_numbering))]
 fn number_arm(alloc: Global, arm: &Arm, next: u32) -> Result<(Arm, u32), NoMemory>
-    ensures { IfOk result (λ r. r ≡ spec.arm_numbered arm.now next) }
+    ensures { IfOk result (λ r. r ≡ spec.arm_numbering arm.now next) }
 {
     let constants = copy_constants(alloc, arm.constants.as_slice())?;
     let (body, next) = number_stmt(alloc, &arm.body, next)?;
@@ -166,7 +134,7 @@ fn number_arm(alloc: Global, arm: &Arm, next: u32) -> Result<(Arm, u32), NoMemor
 
 #[cycle(number_stmt)]
 fn number_arms(alloc: Global, arms: &[Arm], next: u32) -> Result<(Items<Arm>, u32), NoMemory>
-    ensures { IfOk result (λ r. r ≡ spec.arms_numbered arms.now next) }
+    ensures { IfOk result (λ r. r ≡ spec.arms_numbering arms.now next) }
 {
     let mut all = Items::new(alloc);
     let mut next = next;
@@ -180,7 +148,7 @@ fn number_arms(alloc: Global, arms: &[Arm], next: u32) -> Result<(Items<Arm>, u3
 
 #[cycle(number_stmt)]
 fn number_boxed(alloc: Global, stmt: &Stmt, next: u32) -> Result<(Boxed<Stmt>, u32), NoMemory>
-    ensures { IfOk result (λ r. r ≡ spec.stmt_numbered stmt.now next) }
+    ensures { IfOk result (λ r. r ≡ spec.stmt_numbering stmt.now next) }
 {
     let (stmt, next) = number_stmt(alloc, stmt, next)?;
     let stmt = Boxed::new(alloc, stmt)?;
@@ -188,9 +156,9 @@ fn number_boxed(alloc: Global, stmt: &Stmt, next: u32) -> Result<(Boxed<Stmt>, u
 }
 
 #[cycle(number_stmt)]
-#[tactic(auto, unfolding(crate::specs::Naming::stmt_numbered, crate::specs::Naming::kind_numbered, crate::specs::Naming::arm_numbered))]
+#[tactic(auto, unfolding(pascal_tree::specs::Naming::stmt_numbering, pascal_tree::specs::Naming::kind_numbering, pascal_tree::specs::Naming::arm_numbering))]
 fn number_stmt(alloc: Global, stmt: &Stmt, next: u32) -> Result<(Stmt, u32), NoMemory>
-    ensures { IfOk result (λ r. r ≡ spec.stmt_numbered stmt.now next) }
+    ensures { IfOk result (λ r. r ≡ spec.stmt_numbering stmt.now next) }
 {
     let label = stmt.label;
     let inner = one_more(next)?;
@@ -204,9 +172,9 @@ fn number_stmt(alloc: Global, stmt: &Stmt, next: u32) -> Result<(Stmt, u32), NoM
 }
 
 #[cycle(number_stmt)]
-#[tactic(auto, unfolding(crate::specs::Naming::stmt_numbered, crate::specs::Naming::kind_numbered, crate::specs::Naming::arm_numbered))]
+#[tactic(auto, unfolding(pascal_tree::specs::Naming::stmt_numbering, pascal_tree::specs::Naming::kind_numbering, pascal_tree::specs::Naming::arm_numbering))]
 fn number_kind(alloc: Global, kind: &StmtKind, next: u32) -> Result<(StmtKind, u32), NoMemory>
-    ensures { IfOk result (λ r. r ≡ spec.kind_numbered kind.now next) }
+    ensures { IfOk result (λ r. r ≡ spec.kind_numbering kind.now next) }
 {
     match kind {
         StmtKind::Empty => Ok((StmtKind::Empty, next)),
@@ -238,7 +206,7 @@ fn number_kind(alloc: Global, kind: &StmtKind, next: u32) -> Result<(StmtKind, u
 }
 
 fn number_decl(alloc: Global, decl: &Decl, next: u32) -> Result<(Decl, u32), NoMemory>
-    ensures { IfOk result (λ r. r ≡ spec.decl_numbered decl.now next) }
+    ensures { IfOk result (λ r. r ≡ spec.decl_numbering decl.now next) }
 {
     let last = one_more(next)?;
     let kind = copy_decl_kind(alloc, &decl.kind)?;
@@ -250,7 +218,7 @@ fn number_decl(alloc: Global, decl: &Decl, next: u32) -> Result<(Decl, u32), NoM
 }
 
 fn number_decls(alloc: Global, decls: &[Decl], next: u32) -> Result<(Items<Decl>, u32), NoMemory>
-    ensures { IfOk result (λ r. r ≡ spec.decls_numbered decls.now next) }
+    ensures { IfOk result (λ r. r ≡ spec.decls_numbering decls.now next) }
 {
     let mut all = Items::new(alloc);
     let mut next = next;
@@ -267,7 +235,7 @@ fn number_labels(
     labels: &Option<Decl>,
     next: u32,
 ) -> Result<(Option<Decl>, u32), NoMemory>
-    ensures { IfOk result (λ r. r ≡ spec.labels_numbered labels.now next) }
+    ensures { IfOk result (λ r. r ≡ spec.labels_numbering labels.now next) }
 {
     match labels {
         None => Ok((None, next)),
@@ -280,7 +248,7 @@ fn number_labels(
 
 // The number behind the names of the labels.
 fn after_labels(labels: &Option<Decl>, next: u32) -> Result<u32, NoMemory>
-    ensures { IfOk result (λ n. n ≡ (spec.labels_numbered labels.now next).1) }
+    ensures { IfOk result (λ n. n ≡ (spec.labels_numbering labels.now next).1) }
 {
     match labels {
         None => Ok(next),
@@ -299,10 +267,10 @@ fn number_ends(
     vars: Items<Decl>,
     routines: Items<Routine>,
 ) -> Result<(Block, u32), NoMemory>
-    ensures { IfOk result (λ r. r ≡ spec.with_ends block.now next last consts types vars routines) }
+    ensures { IfOk result (λ r. r ≡ spec.block_with_ends block.now next last consts types vars routines) }
 {
-    let (body, last) = number_stmt(alloc, &block.body, last)?;
     let (labels, _) = number_labels(alloc, &block.labels, next)?;
+    let (body, last) = number_stmt(alloc, &block.body, last)?;
     let block = Block {
         labels,
         consts,
@@ -315,9 +283,9 @@ fn number_ends(
 }
 
 #[cycle(number_block)]
-#[tactic(auto, unfolding(crate::specs::Naming::block_numbered, crate::specs::Naming::routine_numbered))]
+#[tactic(auto, unfolding(pascal_tree::specs::Naming::block_numbering, pascal_tree::specs::Naming::routine_numbering))]
 fn number_block(alloc: Global, block: &Block, next: u32) -> Result<(Block, u32), NoMemory>
-    ensures { IfOk result (λ r. r ≡ spec.block_numbered block.now next) }
+    ensures { IfOk result (λ r. r ≡ spec.block_numbering block.now next) }
 {
     let first = after_labels(&block.labels, next)?;
     let (consts, last) = number_decls(alloc, block.consts.as_slice(), first)?;
@@ -328,9 +296,9 @@ fn number_block(alloc: Global, block: &Block, next: u32) -> Result<(Block, u32),
 }
 
 #[cycle(number_block)]
-#[tactic(auto, unfolding(crate::specs::Naming::block_numbered, crate::specs::Naming::routine_numbered))]
+#[tactic(auto, unfolding(pascal_tree::specs::Naming::block_numbering, pascal_tree::specs::Naming::routine_numbering))]
 fn number_routine(alloc: Global, routine: &Routine, next: u32) -> Result<(Routine, u32), NoMemory>
-    ensures { IfOk result (λ r. r ≡ spec.routine_numbered routine.now next) }
+    ensures { IfOk result (λ r. r ≡ spec.routine_numbering routine.now next) }
 {
     let name = Name(next);
     let next = one_more(next)?;
@@ -364,7 +332,7 @@ fn number_routines(
     routines: &[Routine],
     next: u32,
 ) -> Result<(Items<Routine>, u32), NoMemory>
-    ensures { IfOk result (λ r. r ≡ spec.routines_numbered routines.now next) }
+    ensures { IfOk result (λ r. r ≡ spec.routines_numbering routines.now next) }
 {
     let mut all = Items::new(alloc);
     let mut next = next;
@@ -379,7 +347,7 @@ fn number_routines(
 /// A copy of a statement that bears this name, and whose parts bear the names from `next` on, in text order; and the
 /// number behind them.
 pub fn name_stmt(alloc: Global, name: Name, stmt: &Stmt, next: u32) -> Result<(Stmt, u32), NoMemory>
-    ensures value { IfOk result (λ r. r ≡ renamed name.0 stmt.now next) }
+    ensures value { IfOk result (λ r. r ≡ stmt_renaming name.0 stmt.now next) }
     ensures names { IfOk result (λ r. Counts next (names_within r.0) r.1) }
 {
     let (kind, last) = number_kind(alloc, &stmt.kind, next)?;
@@ -392,14 +360,14 @@ pub fn name_stmt(alloc: Global, name: Name, stmt: &Stmt, next: u32) -> Result<(S
 }
 
 /// A copy of a program whose items bear the names from 1 on, in text order.
-pub fn number_program(alloc: Global, program: &Program) -> Result<Program, NoMemory>
-    ensures value { IfOk result (λ p. p ≡ spec.numbered program.now) }
+pub fn number_program(alloc: Global, program: &Tree) -> Result<Tree, NoMemory>
+    ensures value { IfOk result (λ p. p ≡ spec.numbered_program program.now) }
     ensures names { IfOk result (λ p. Counts 1 (program_names p) p.next) }
 {
     let ident = program.ident.copy(alloc)?;
     let files = copy_texts(alloc, program.files.as_slice())?;
     let (block, next) = number_block(alloc, &program.block, 2)?;
-    Ok(Program {
+    Ok(Tree {
         ident,
         files,
         block,

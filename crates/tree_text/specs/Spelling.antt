@@ -5,23 +5,24 @@ use Rattle.dice_base.specs.declared.token.TokenKind.{TokenKind}
 use Rattle.dice_base.specs.declared.token.TokenKind.TheVariants.{Word, Ident, Number, Str, Sign, Hole}
 use Rattle.dice_base.specs.declared.symbols.TheConstants.{WORD_SYMBOLS, SIGNS}
 
--- each apostrophe stands twice
-abbrev pub doubled : List ℕ → List ℕ
-doubled [] = []
-doubled (c ∷ cs) = if c == 39 then 39 ∷ 39 ∷ doubled cs else c ∷ doubled cs
+-- the characters of a string with each apostrophe twice (6.1.7)
+abbrev pub doubled_apostrophes : List ℕ → List ℕ
+doubled_apostrophes [] = []
+doubled_apostrophes (c ∷ cs) =
+    if c == 39 then 39 ∷ 39 ∷ doubled_apostrophes cs else c ∷ doubled_apostrophes cs
 
--- a word symbol, and a sign, by its number
-unfoldable pub word_of : ℕ → List ℕ
-word_of k = slice_index_or (map (λ w. w.now) WORD_SYMBOLS) k []
+-- the spelling of a word symbol by its number in the table of dice_base, and that of a sign
+unfoldable pub word_spelling : ℕ → List ℕ
+word_spelling k = slice_index_or (map (λ w. w.now) WORD_SYMBOLS) k []
 
-unfoldable pub sign_of : ℕ → List ℕ
-sign_of k = slice_index_or (map (λ s. s.now) SIGNS) k []
+unfoldable pub sign_spelling : ℕ → List ℕ
+sign_spelling k = slice_index_or (map (λ s. s.now) SIGNS) k []
 
--- a string stands between apostrophes, and a part that is left out is `#`
+-- a string is written between apostrophes, and `#` is written for what is left out of an own text
 unfoldable pub spelling_of : TokenKind → List ℕ
-spelling_of (Word k) = word_of k
+spelling_of (Word k) = word_spelling k
 spelling_of (Ident x) = x
 spelling_of (Number n) = decimal n
-spelling_of (Str x) = 39 ∷ doubled x ++ 39 ∷ []
-spelling_of (Sign k) = sign_of k
+spelling_of (Str x) = 39 ∷ doubled_apostrophes x ++ 39 ∷ []
+spelling_of (Sign k) = sign_spelling k
 spelling_of Hole = 35 ∷ []

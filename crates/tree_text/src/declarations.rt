@@ -1,7 +1,7 @@
 //! Constants, types, declarations and headings as tokens.
 ghost use Rattle.std.specs.Prelude.{◌≡◌, ◌++◌, ◌∷◌, [], map, OnOk};
-ghost use Rattle.pascal_tree.specs.Joined.{joined};
-ghost use Rattle.pascal_tree.specs.ExprTokens.{listed, in_brackets, in_parens};
+ghost use Rattle.pascal_tree.specs.Joined.{join};
+ghost use Rattle.pascal_tree.specs.ExprTokens.{comma_list, in_brackets, in_parens};
 ghost use Rattle.pascal_tree.specs.DeclTokens as spec;
 
 use crate::expressions::push_prefix;
@@ -11,7 +11,7 @@ use pascal_tree::{Constant, DeclKind, FieldText, Heading, Section, TypeText};
 use std::alloc::Global;
 
 /// Adds identifiers, with commas between.
-#[tactic(auto, using(crate::proofs::Rest::still_step, crate::proofs::Rest::still_end), unfolding(crate::specs::Declarations::idents_tokens))]
+#[tactic(auto, using(crate::proofs::Rest::still_step, crate::proofs::Rest::still_end), unfolding(pascal_tree::specs::DeclTokens::idents_tokens))]
 pub fn push_idents(alloc: Global, idents: &[Text], out: &mut Vec<TokenKind>) -> Result<(), NoMemory>
     ensures { OnOk result (out.new.items ≡ out.old.items ++ spec.idents_tokens idents.now) }
 {
@@ -25,7 +25,7 @@ pub fn push_idents(alloc: Global, idents: &[Text], out: &mut Vec<TokenKind>) -> 
 }
 
 /// Adds the tokens of a constant.
-#[tactic(auto, unfolding(crate::specs::Declarations::constant_tokens))]
+#[tactic(auto, unfolding(pascal_tree::specs::DeclTokens::constant_tokens))]
 pub fn push_constant(
     alloc: Global,
     constant: &Constant,
@@ -47,7 +47,7 @@ pub fn push_constant(
 }
 
 /// Adds the tokens of constants, with commas between.
-#[tactic(auto, using(crate::proofs::Rest::still_step, crate::proofs::Rest::still_end), unfolding(crate::specs::Declarations::constants_tokens))]
+#[tactic(auto, using(crate::proofs::Rest::still_step, crate::proofs::Rest::still_end), unfolding(pascal_tree::specs::DeclTokens::constants_tokens))]
 pub fn push_constants(
     alloc: Global,
     constants: &[Constant],
@@ -76,7 +76,7 @@ fn push_packed(packed: bool, out: &mut Vec<TokenKind>) -> Result<(), NoMemory>
 
 /// Adds the tokens of a type.
 #[cycle(push_type)]
-#[tactic(auto, unfolding(crate::specs::Declarations::type_tokens, crate::specs::Declarations::field_tokens))]
+#[tactic(auto, unfolding(pascal_tree::specs::DeclTokens::type_tokens, pascal_tree::specs::DeclTokens::field_tokens))]
 pub fn push_type(alloc: Global, shape: &TypeText, out: &mut Vec<TokenKind>) -> Result<(), NoMemory>
     ensures { OnOk result (out.new.items ≡ out.old.items ++ spec.type_tokens shape.now) }
 {
@@ -134,7 +134,7 @@ fn push_indexes(
 #[cycle(push_type)]
 #[tactic(auto, using(crate::proofs::Rest::still_step, crate::proofs::Rest::still_end))]
 fn push_types(alloc: Global, shapes: &[TypeText], out: &mut Vec<TokenKind>) -> Result<(), NoMemory>
-    ensures { OnOk result (out.new.items ≡ out.old.items ++ listed (map spec.type_tokens shapes.now)) }
+    ensures { OnOk result (out.new.items ≡ out.old.items ++ comma_list (map spec.type_tokens shapes.now)) }
 {
     let mut first = true;
     for shape in shapes {
@@ -153,7 +153,7 @@ fn push_fields(
     out: &mut Vec<TokenKind>,
 ) -> Result<(), NoMemory>
     ensures { OnOk result (out.new.items
-        ≡ out.old.items ++ joined (TokenKind.Sign signs::SEMICOLON ∷ []) (map spec.field_tokens fields.now)) }
+        ≡ out.old.items ++ join (TokenKind.Sign signs::SEMICOLON ∷ []) (map spec.field_tokens fields.now)) }
 {
     let mut first = true;
     for field in fields {
@@ -165,7 +165,7 @@ fn push_fields(
 }
 
 #[cycle(push_type)]
-#[tactic(auto, unfolding(crate::specs::Declarations::type_tokens, crate::specs::Declarations::field_tokens))]
+#[tactic(auto, unfolding(pascal_tree::specs::DeclTokens::type_tokens, pascal_tree::specs::DeclTokens::field_tokens))]
 fn push_field(alloc: Global, field: &FieldText, out: &mut Vec<TokenKind>) -> Result<(), NoMemory>
     ensures { OnOk result (out.new.items ≡ out.old.items ++ spec.field_tokens field.now) }
 {
@@ -176,7 +176,7 @@ fn push_field(alloc: Global, field: &FieldText, out: &mut Vec<TokenKind>) -> Res
 
 #[tactic(auto, using(crate::proofs::Rest::still_step, crate::proofs::Rest::still_end))]
 fn push_labels(labels: &[u16], out: &mut Vec<TokenKind>) -> Result<(), NoMemory>
-    ensures { OnOk result (out.new.items ≡ out.old.items ++ listed (map spec.number_tokens labels.now)) }
+    ensures { OnOk result (out.new.items ≡ out.old.items ++ comma_list (map spec.number_tokens labels.now)) }
 {
     let mut first = true;
     for label in labels {
@@ -188,7 +188,7 @@ fn push_labels(labels: &[u16], out: &mut Vec<TokenKind>) -> Result<(), NoMemory>
 }
 
 /// Adds the tokens of a declaration, without the word before the first and the semicolon behind it.
-#[tactic(auto, unfolding(crate::specs::Declarations::decl_tokens))]
+#[tactic(auto, unfolding(pascal_tree::specs::DeclTokens::decl_tokens))]
 pub fn push_decl(alloc: Global, kind: &DeclKind, out: &mut Vec<TokenKind>) -> Result<(), NoMemory>
     ensures { OnOk result (out.new.items ≡ out.old.items ++ spec.decl_tokens kind.now) }
 {
@@ -222,7 +222,7 @@ fn push_by_place(by_place: bool, out: &mut Vec<TokenKind>) -> Result<(), NoMemor
     }
 }
 
-#[tactic(auto, unfolding(crate::specs::Declarations::section_tokens))]
+#[tactic(auto, unfolding(pascal_tree::specs::DeclTokens::section_tokens))]
 fn push_section(alloc: Global, section: &Section, out: &mut Vec<TokenKind>) -> Result<(), NoMemory>
     ensures { OnOk result (out.new.items ≡ out.old.items ++ spec.section_tokens section.now) }
 {
@@ -239,7 +239,7 @@ fn push_sections(
     out: &mut Vec<TokenKind>,
 ) -> Result<(), NoMemory>
     ensures { OnOk result (out.new.items
-        ≡ out.old.items ++ joined (TokenKind.Sign signs::SEMICOLON ∷ []) (map spec.section_tokens sections.now)) }
+        ≡ out.old.items ++ join (TokenKind.Sign signs::SEMICOLON ∷ []) (map spec.section_tokens sections.now)) }
 {
     let mut first = true;
     for section in sections {
@@ -294,7 +294,7 @@ fn heading_word(function: bool) -> u8
 }
 
 /// Adds the tokens of a heading.
-#[tactic(auto, unfolding(crate::specs::Declarations::heading_tokens))]
+#[tactic(auto, unfolding(pascal_tree::specs::DeclTokens::heading_tokens))]
 pub fn push_heading(
     alloc: Global,
     heading: &Heading,

@@ -59,7 +59,7 @@ fn push_multiplying_op(op: MulOp, out: &mut Vec<TokenKind>) -> Result<(), NoMemo
 
 /// Adds the tokens of an expression.
 #[cycle(push_expr)]
-#[tactic(auto, unfolding(crate::specs::Expressions::expr_tokens, crate::specs::Expressions::sum_tokens, crate::specs::Expressions::relation_tokens))]
+#[tactic(auto, unfolding(pascal_tree::specs::ExprTokens::expr_tokens, pascal_tree::specs::ExprTokens::sum_tokens, pascal_tree::specs::ExprTokens::relation_tokens))]
 pub fn push_expr(alloc: Global, expr: &Expr, out: &mut Vec<TokenKind>) -> Result<(), NoMemory>
     ensures { OnOk result (out.new.items ≡ out.old.items ++ spec.expr_tokens expr.now) }
 {
@@ -71,7 +71,7 @@ pub fn push_expr(alloc: Global, expr: &Expr, out: &mut Vec<TokenKind>) -> Result
 }
 
 #[cycle(push_expr)]
-#[tactic(auto, unfolding(crate::specs::Expressions::relation_tokens, crate::specs::Expressions::sum_tokens))]
+#[tactic(auto, unfolding(pascal_tree::specs::ExprTokens::relation_tokens, pascal_tree::specs::ExprTokens::sum_tokens))]
 fn push_relation(alloc: Global, part: &RelPart, out: &mut Vec<TokenKind>) -> Result<(), NoMemory>
     ensures { OnOk result (out.new.items ≡ out.old.items ++ spec.relation_tokens part.now) }
 {
@@ -80,7 +80,7 @@ fn push_relation(alloc: Global, part: &RelPart, out: &mut Vec<TokenKind>) -> Res
 }
 
 #[cycle(push_expr)]
-#[tactic(auto, unfolding(crate::specs::Expressions::sum_tokens, crate::specs::Expressions::term_tokens, crate::specs::Expressions::adding_tokens))]
+#[tactic(auto, unfolding(pascal_tree::specs::ExprTokens::sum_tokens, pascal_tree::specs::ExprTokens::term_tokens, pascal_tree::specs::ExprTokens::adding_tokens))]
 fn push_sum(alloc: Global, sum: &SumExpr, out: &mut Vec<TokenKind>) -> Result<(), NoMemory>
     ensures { OnOk result (out.new.items ≡ out.old.items ++ spec.sum_tokens sum.now) }
 {
@@ -104,7 +104,7 @@ fn push_adding_parts(
 }
 
 #[cycle(push_expr)]
-#[tactic(auto, unfolding(crate::specs::Expressions::adding_tokens, crate::specs::Expressions::term_tokens))]
+#[tactic(auto, unfolding(pascal_tree::specs::ExprTokens::adding_tokens, pascal_tree::specs::ExprTokens::term_tokens))]
 fn push_adding(alloc: Global, part: &AddPart, out: &mut Vec<TokenKind>) -> Result<(), NoMemory>
     ensures { OnOk result (out.new.items ≡ out.old.items ++ spec.adding_tokens part.now) }
 {
@@ -113,7 +113,7 @@ fn push_adding(alloc: Global, part: &AddPart, out: &mut Vec<TokenKind>) -> Resul
 }
 
 #[cycle(push_expr)]
-#[tactic(auto, unfolding(crate::specs::Expressions::term_tokens, crate::specs::Expressions::factor_tokens, crate::specs::Expressions::multiplying_tokens))]
+#[tactic(auto, unfolding(pascal_tree::specs::ExprTokens::term_tokens, pascal_tree::specs::ExprTokens::factor_tokens, pascal_tree::specs::ExprTokens::multiplying_tokens))]
 fn push_term(alloc: Global, term: &Term, out: &mut Vec<TokenKind>) -> Result<(), NoMemory>
     ensures { OnOk result (out.new.items ≡ out.old.items ++ spec.term_tokens term.now) }
 {
@@ -136,7 +136,7 @@ fn push_multiplying_parts(
 }
 
 #[cycle(push_expr)]
-#[tactic(auto, unfolding(crate::specs::Expressions::multiplying_tokens, crate::specs::Expressions::factor_tokens))]
+#[tactic(auto, unfolding(pascal_tree::specs::ExprTokens::multiplying_tokens, pascal_tree::specs::ExprTokens::factor_tokens))]
 fn push_multiplying(alloc: Global, part: &MulPart, out: &mut Vec<TokenKind>) -> Result<(), NoMemory>
     ensures { OnOk result (out.new.items ≡ out.old.items ++ spec.multiplying_tokens part.now) }
 {
@@ -145,7 +145,7 @@ fn push_multiplying(alloc: Global, part: &MulPart, out: &mut Vec<TokenKind>) -> 
 }
 
 #[cycle(push_expr)]
-#[tactic(auto, unfolding(crate::specs::Expressions::factor_tokens, crate::specs::Expressions::access_tokens, crate::specs::Expressions::args_tokens, crate::specs::Expressions::arg_tokens, crate::specs::Expressions::member_tokens, crate::specs::Expressions::expr_tokens))]
+#[tactic(auto, unfolding(pascal_tree::specs::ExprTokens::factor_tokens, pascal_tree::specs::ExprTokens::access_tokens, pascal_tree::specs::ExprTokens::args_tokens, pascal_tree::specs::ExprTokens::arg_tokens, pascal_tree::specs::ExprTokens::member_tokens, pascal_tree::specs::ExprTokens::expr_tokens))]
 fn push_factor(alloc: Global, factor: &Factor, out: &mut Vec<TokenKind>) -> Result<(), NoMemory>
     ensures { OnOk result (out.new.items ≡ out.old.items ++ spec.factor_tokens factor.now) }
 {
@@ -182,7 +182,7 @@ fn push_members(
     members: &[SetMember],
     out: &mut Vec<TokenKind>,
 ) -> Result<(), NoMemory>
-    ensures { OnOk result (out.new.items ≡ out.old.items ++ spec.listed (map spec.member_tokens members.now)) }
+    ensures { OnOk result (out.new.items ≡ out.old.items ++ spec.comma_list (map spec.member_tokens members.now)) }
 {
     let mut first = true;
     for member in members {
@@ -194,7 +194,7 @@ fn push_members(
 }
 
 #[cycle(push_expr)]
-#[tactic(auto, unfolding(crate::specs::Expressions::member_tokens, crate::specs::Expressions::expr_tokens))]
+#[tactic(auto, unfolding(pascal_tree::specs::ExprTokens::member_tokens, pascal_tree::specs::ExprTokens::expr_tokens))]
 fn push_member(alloc: Global, member: &SetMember, out: &mut Vec<TokenKind>) -> Result<(), NoMemory>
     ensures { OnOk result (out.new.items ≡ out.old.items ++ spec.member_tokens member.now) }
 {
@@ -210,7 +210,7 @@ fn push_member(alloc: Global, member: &SetMember, out: &mut Vec<TokenKind>) -> R
 
 /// Adds the tokens of an argument list: none where there is no argument.
 #[cycle(push_expr)]
-#[tactic(auto, unfolding(crate::specs::Expressions::args_tokens))]
+#[tactic(auto, unfolding(pascal_tree::specs::ExprTokens::args_tokens))]
 pub fn push_args(alloc: Global, args: &[Arg], out: &mut Vec<TokenKind>) -> Result<(), NoMemory>
     ensures { OnOk result (out.new.items ≡ out.old.items ++ spec.args_tokens args.now) }
 {
@@ -225,7 +225,7 @@ pub fn push_args(alloc: Global, args: &[Arg], out: &mut Vec<TokenKind>) -> Resul
 #[cycle(push_expr)]
 #[tactic(auto, using(crate::proofs::Rest::still_step, crate::proofs::Rest::still_end))]
 fn push_arg_list(alloc: Global, args: &[Arg], out: &mut Vec<TokenKind>) -> Result<(), NoMemory>
-    ensures { OnOk result (out.new.items ≡ out.old.items ++ spec.listed (map spec.arg_tokens args.now)) }
+    ensures { OnOk result (out.new.items ≡ out.old.items ++ spec.comma_list (map spec.arg_tokens args.now)) }
 {
     let mut first = true;
     for arg in args {
@@ -237,7 +237,7 @@ fn push_arg_list(alloc: Global, args: &[Arg], out: &mut Vec<TokenKind>) -> Resul
 }
 
 #[cycle(push_expr)]
-#[tactic(auto, unfolding(crate::specs::Expressions::arg_tokens, crate::specs::Expressions::expr_tokens))]
+#[tactic(auto, unfolding(pascal_tree::specs::ExprTokens::arg_tokens, pascal_tree::specs::ExprTokens::expr_tokens))]
 fn push_arg(alloc: Global, arg: &Arg, out: &mut Vec<TokenKind>) -> Result<(), NoMemory>
     ensures { OnOk result (out.new.items ≡ out.old.items ++ spec.arg_tokens arg.now) }
 {
@@ -253,7 +253,7 @@ fn push_arg(alloc: Global, arg: &Arg, out: &mut Vec<TokenKind>) -> Result<(), No
 
 /// Adds the tokens of an access.
 #[cycle(push_expr)]
-#[tactic(auto, unfolding(crate::specs::Expressions::access_tokens, crate::specs::Expressions::part_tokens))]
+#[tactic(auto, unfolding(pascal_tree::specs::ExprTokens::access_tokens, pascal_tree::specs::ExprTokens::part_tokens))]
 pub fn push_access(alloc: Global, access: &Access, out: &mut Vec<TokenKind>) -> Result<(), NoMemory>
     ensures { OnOk result (out.new.items ≡ out.old.items ++ spec.access_tokens access.now) }
 {
@@ -276,7 +276,7 @@ fn push_access_parts(
 }
 
 #[cycle(push_expr)]
-#[tactic(auto, unfolding(crate::specs::Expressions::part_tokens, crate::specs::Expressions::expr_tokens))]
+#[tactic(auto, unfolding(pascal_tree::specs::ExprTokens::part_tokens, pascal_tree::specs::ExprTokens::expr_tokens))]
 fn push_access_part(
     alloc: Global,
     part: &AccessPart,
@@ -301,7 +301,7 @@ fn push_access_part(
 #[cycle(push_expr)]
 #[tactic(auto, using(crate::proofs::Rest::still_step, crate::proofs::Rest::still_end))]
 fn push_exprs(alloc: Global, exprs: &[Expr], out: &mut Vec<TokenKind>) -> Result<(), NoMemory>
-    ensures { OnOk result (out.new.items ≡ out.old.items ++ spec.listed (map spec.expr_tokens exprs.now)) }
+    ensures { OnOk result (out.new.items ≡ out.old.items ++ spec.comma_list (map spec.expr_tokens exprs.now)) }
 {
     let mut first = true;
     for expr in exprs {
@@ -313,7 +313,7 @@ fn push_exprs(alloc: Global, exprs: &[Expr], out: &mut Vec<TokenKind>) -> Result
 }
 
 /// Adds the tokens of accesses, with commas between.
-#[tactic(auto, using(crate::proofs::Rest::still_step, crate::proofs::Rest::still_end), unfolding(crate::specs::Expressions::accesses_tokens))]
+#[tactic(auto, using(crate::proofs::Rest::still_step, crate::proofs::Rest::still_end), unfolding(pascal_tree::specs::ExprTokens::accesses_tokens))]
 pub fn push_accesses(
     alloc: Global,
     accesses: &[Access],

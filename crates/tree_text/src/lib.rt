@@ -11,6 +11,3 @@ pub use declarations::{
 };
 pub use expressions::{push_access, push_accesses, push_args, push_expr};
 pub use spelling::push_spelling;
-
-#[cfg(test)]
-mod tests;

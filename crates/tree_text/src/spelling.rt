@@ -1,6 +1,6 @@
 //! Tokens as text.
 ghost use Rattle.std.specs.Prelude.{◌≡◌, ◌++◌, ◌∷◌, [], map, slice_index_or, OnOk};
-ghost use Rattle.tree_text.specs.Spelling.{doubled, spelling_of};
+ghost use Rattle.tree_text.specs.Spelling.{doubled_apostrophes, spelling_of};
 
 use dice_base::{NoMemory, SIGNS, Text, TokenKind, WORD_SYMBOLS, push_decimal};
 use std::alloc::Global;
@@ -21,7 +21,7 @@ fn push_entry(alloc: Global, table: &[&[u8]], number: u8, out: &mut Text) -> Res
 
 // Adds a byte of a string: an apostrophe twice.
 fn push_byte(alloc: Global, byte: u8, out: &mut Text) -> Result<(), NoMemory>
-    ensures { OnOk result (out.new ≡ out.old ++ doubled (byte ∷ [])) }
+    ensures { OnOk result (out.new ≡ out.old ++ doubled_apostrophes (byte ∷ [])) }
 {
     if byte == APOSTROPHE {
         out.push(alloc, APOSTROPHE)?;
@@ -30,7 +30,7 @@ fn push_byte(alloc: Global, byte: u8, out: &mut Text) -> Result<(), NoMemory>
 }
 
 fn push_doubled(alloc: Global, text: &[u8], out: &mut Text) -> Result<(), NoMemory>
-    ensures { OnOk result (out.new ≡ out.old ++ doubled text.now) }
+    ensures { OnOk result (out.new ≡ out.old ++ doubled_apostrophes text.now) }
 {
     for byte in text {
         push_byte(alloc, *byte, out)?;
@@ -48,7 +48,7 @@ fn push_quoted(alloc: Global, text: &Text, out: &mut Text) -> Result<(), NoMemor
 }
 
 /// Adds a token as it is written.
-#[tactic(auto, unfolding(crate::specs::Spelling::spelling_of, crate::specs::Spelling::word_of, crate::specs::Spelling::sign_of))]
+#[tactic(auto, unfolding(crate::specs::Spelling::spelling_of, crate::specs::Spelling::word_spelling, crate::specs::Spelling::sign_spelling))]
 pub fn push_spelling(alloc: Global, token: &TokenKind, out: &mut Text) -> Result<(), NoMemory>
     ensures { OnOk result (out.new ≡ out.old ++ spelling_of token.now) }
 {

@@ -1,10 +1,10 @@
 use Rattle.std.proofs.Common.{◌≡◌, length}
-use Rattle.pascal_print.specs.Listing.{lines_of, text_of_lines}
+use Rattle.pascal_print.specs.Listing.{listing_lines, text_of_lines}
 use Rattle.pascal_print.specs.Layout.{whole_with}
 use Rattle.pascal_print.proofs.layout.lay_out.Given as goal
 
 abbrev pub invariant-loop-event : goal.invariant-loop-event
-invariant-loop-event l = whole_with l.layout l.events ≡ text_of_lines l.fn.names (lines_of l.fn.events)
+invariant-loop-event l = whole_with l.layout l.events ≡ text_of_lines l.fn.names (listing_lines l.fn.events)
 
 abbrev pub decreases-loop-event : goal.decreases-loop-event
 decreases-loop-event l = length l.events

@@ -1,7 +1,7 @@
 use Rattle.std.proofs.Common.{◌≡◌, drop}
-use Rattle.pascal_tree.specs.Naming.{routines_numbered}
-use Rattle.tree_names.proofs.Numbers.{behind}
+use Rattle.pascal_tree.specs.Naming.{routines_numbering}
+use Rattle.tree_names.proofs.Numbers.{with_front}
 use Rattle.tree_names.proofs.naming.+number_block.Given as goal
 
 abbrev pub invariant-number_routines-loop-routine : goal.invariant-number_routines-loop-routine
-invariant-number_routines-loop-routine l = behind l.all (routines_numbered (drop l.routine-index l.routines) l.next) ≡ routines_numbered l.routines l.fn.next
+invariant-number_routines-loop-routine l = with_front l.all (routines_numbering (drop l.routine-index l.routines) l.next) ≡ routines_numbering l.routines l.fn.next
