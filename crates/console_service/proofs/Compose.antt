@@ -4,7 +4,8 @@ use Rattle.std.specs.Prelude.{slice_index, slice_set, option_and_then}
 use Rattle.std.proofs.Math.ListN.{length-set}
 use Rattle.std.proofs.lemmas.List.{get_or-set_other}
 use Rattle.console_service.specs.Run.{Whole, quiet, runs}
-use Rattle.console_service.specs.Cpu.{Cpu, state_of, HasAt, Keeps, Comes, globals_begin, memory_end}
+use Rattle.console_service.specs.Cpu.{Cpu, state_of, HasAt, Keeps, Comes}
+use Rattle.console_service.specs.declared.memory_map.TheConstants.{GLOBALS_WORD, MEMORY_END_WORD}
 use Rattle.console_service.proofs.Ops.{Op, PushNumber, PushWord, PopWord, AddTop, CompareTop, PopR0, PopR1, StoreR0, SetR1, PushZero, WriteInteger, WriteEnd, words_of, after, Fits, op_step}
 
 runs_from : (m n : ℕ) (o : Option (Whole)) (t : Whole) → option_and_then (runs m) o ≡ Some t → ((u : Whole) → runs m u ≡ Some t → runs (m + n) u ≡ runs n t) → option_and_then (runs (m + n)) o ≡ runs n t
@@ -122,7 +123,7 @@ LineFits lo hi [] c = Unit {0}
 LineFits lo hi (o ∷ os) c = Fits lo hi o c × LineFits lo hi os (after o c)
 
 -- what a line of operations does
-pub line_runs : (lo hi : ℕ) (os : List Op) (c : Cpu) → globals_begin ≤ lo → hi ≤ memory_end → c.pc + length (line_words os) ≤ globals_begin → HasAt c.mem c.pc (line_words os) → LineFits lo hi os c → Comes (length os) c (after_line os c) × Keeps lo hi c (after_line os c) × ((after_line os c).pc ≡ c.pc + length (line_words os))
+pub line_runs : (lo hi : ℕ) (os : List Op) (c : Cpu) → GLOBALS_WORD ≤ lo → hi ≤ MEMORY_END_WORD → c.pc + length (line_words os) ≤ GLOBALS_WORD → HasAt c.mem c.pc (line_words os) → LineFits lo hi os c → Comes (length os) c (after_line os c) × Keeps lo hi c (after_line os c) × ((after_line os c).pc ≡ c.pc + length (line_words os))
 line_runs lo hi [] c g t p has fit = (no_step c, keeps_all lo hi c, omega arith)
 line_runs lo hi (o ∷ os) c g t p has fit =
     let lens = length-append (words_of o) (line_words os) in

@@ -4,9 +4,10 @@ use Rattle.std.specs.Prelude.{slice_index, slice_set, nat_le, nat_lt}
 use Rattle.std.proofs.lemmas.Bool.Decides.{nat_tests}
 use Rattle.pdp11_machine.specs.State.{is_place}
 use Rattle.pdp11_machine.specs.Words.{flags_of, sum_overflows, difference_overflows}
-use Rattle.console_service.specs.Console.{output_room, integer_text}
+use Rattle.console_service.specs.Console.{integer_text}
+use Rattle.console_service.specs.declared.memory_map.TheConstants.{CONSOLE_ROOM_BYTES, GLOBALS_WORD, MEMORY_END_WORD}
 use Rattle.console_service.specs.Run.{quiet}
-use Rattle.console_service.specs.Cpu.{Cpu, state_of, HasAt, globals_begin, memory_end}
+use Rattle.console_service.specs.Cpu.{Cpu, state_of, HasAt}
 use Rattle.console_service.proofs.Texts.{written_fits}
 
 pub even_place : (p : ℕ) → p < 28672 → is_place (2 * p) ≡ true
@@ -78,20 +79,20 @@ after WriteEnd c = record c { pc = c.pc + 1; console = record c.console { output
 -- the operation can be done, and writes only from one place up to another
 abbrev pub Fits : ℕ → ℕ → Op → Cpu → Type 0
 Fits lo hi (PushNumber n) c = (lo < c.sp) × (c.sp ≤ hi)
-Fits lo hi (PushWord g) c = (lo < c.sp) × (c.sp ≤ hi) × (g < memory_end)
-Fits lo hi (PopWord g) c = (lo ≤ g) × (g < hi) × (c.sp < memory_end)
+Fits lo hi (PushWord g) c = (lo < c.sp) × (c.sp ≤ hi) × (g < MEMORY_END_WORD)
+Fits lo hi (PopWord g) c = (lo ≤ g) × (g < hi) × (c.sp < MEMORY_END_WORD)
 Fits lo hi AddTop c = (lo ≤ c.sp) × (c.sp + 1 < hi)
-Fits lo hi (CompareTop n) c = c.sp < memory_end
-Fits lo hi PopR0 c = c.sp < memory_end
-Fits lo hi PopR1 c = c.sp < memory_end
+Fits lo hi (CompareTop n) c = c.sp < MEMORY_END_WORD
+Fits lo hi PopR0 c = c.sp < MEMORY_END_WORD
+Fits lo hi PopR1 c = c.sp < MEMORY_END_WORD
 Fits lo hi StoreR0 c = (lo ≤ c.sp) × (c.sp < hi)
 Fits lo hi (SetR1 n) c = Unit {0}
 Fits lo hi PushZero c = (lo < c.sp) × (c.sp ≤ hi)
-Fits lo hi WriteInteger c = (0 < c.r1) × (c.r1 < 256) × (length c.console.output + length (integer_text c.r0 c.r1) ≤ output_room)
-Fits lo hi WriteEnd c = length c.console.output + 1 ≤ output_room
+Fits lo hi WriteInteger c = (0 < c.r1) × (c.r1 < 256) × (length c.console.output + length (integer_text c.r0 c.r1) ≤ CONSOLE_ROOM_BYTES)
+Fits lo hi WriteEnd c = length c.console.output + 1 ≤ CONSOLE_ROOM_BYTES
 
 -- each operation is one step of the machine
-pub op_step : (lo hi : ℕ) (o : Op) (c : Cpu) → hi ≤ memory_end → c.pc < globals_begin → HasAt c.mem c.pc (words_of o) → Fits lo hi o c → quiet (state_of c) ≡ Some (state_of (after o c))
+pub op_step : (lo hi : ℕ) (o : Op) (c : Cpu) → hi ≤ MEMORY_END_WORD → c.pc < GLOBALS_WORD → HasAt c.mem c.pc (words_of o) → Fits lo hi o c → quiet (state_of c) ≡ Some (state_of (after o c))
 op_step lo hi (PushNumber n) c top hp has fit =
     let w = has.0 in let a = has.1.0 in
     let h : c.pc < 28672 = omega arith in let h1 : c.pc + 1 < 28672 = omega arith in
@@ -140,9 +141,9 @@ op_step lo hi PushZero c top hp has fit =
 op_step lo hi WriteInteger c top hp has fit =
     let w = has.0 in let h : c.pc < 28672 = omega arith in
     let a : nat_le 1 c.r1 ≡ true = grind (arith, nat_tests, fit.0) in let b : nat_le c.r1 255 ≡ true = grind (arith, nat_tests, fit.1) in
-    let room : length c.console.output + length (integer_text c.r0 c.r1) ≤ output_room = fit.2 in
+    let room : length c.console.output + length (integer_text c.r0 c.r1) ≤ CONSOLE_ROOM_BYTES = fit.2 in
     simp (half, w, a, b, even_place, next, written_fits)
 op_step lo hi WriteEnd c top hp has fit =
     let w = has.0 in let h : c.pc < 28672 = omega arith in
-    let room : length c.console.output + length {A = ℕ} (10 ∷ []) ≤ output_room = fit in
+    let room : length c.console.output + length {A = ℕ} (10 ∷ []) ≤ CONSOLE_ROOM_BYTES = fit in
     simp (half, w, even_place, next, written_fits)

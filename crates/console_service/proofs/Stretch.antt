@@ -3,13 +3,14 @@ use Rattle.std.proofs.Common.{◌≡◌, ℕ, ◌+◌, ◌*◌, ◌<◌, ◌≤�
 use Rattle.std.specs.Prelude.{slice_index, slice_set}
 use Rattle.std.proofs.Math.ListN.{length-set}
 use Rattle.dice_base.specs.declared.link.LinkTo.{LinkTo}
-use Rattle.console_service.specs.Cpu.{Cpu, HasAt, globals_begin, memory_end}
+use Rattle.console_service.specs.Cpu.{Cpu, HasAt}
+use Rattle.console_service.specs.declared.memory_map.TheConstants.{GLOBALS_WORD, MEMORY_END_WORD}
 use Rattle.console_service.specs.Block.{Gate, Spot, Link, Block, linked, set_at, laid, gate_word, place_of}
 use Rattle.console_service.specs.Semantics.{Begin, At, Exit, Out, Calls, Returns, Over, Fails, Hanging, Semantics}
 use Rattle.console_service.specs.Plain.{Program, Pending, Now, moved, returned, stretch, stretch_of, cost_of, IsGoodNow}
 use Rattle.console_service.specs.Image.{nth, behind_call, Runs, start_at, gate_length, Gives, ToBack, IsEnd, Lies, HasImage, back_in, hanging, Waits, AllWait, Before, Represents}
 
-pub has_kept : (c d : Cpu) (p : ℕ) (ws : List ℕ) → ((k : ℕ) → k < globals_begin → slice_index d.mem k ≡ slice_index c.mem k) → p + length ws ≤ globals_begin → HasAt c.mem p ws → HasAt d.mem p ws
+pub has_kept : (c d : Cpu) (p : ℕ) (ws : List ℕ) → ((k : ℕ) → k < GLOBALS_WORD → slice_index d.mem k ≡ slice_index c.mem k) → p + length ws ≤ GLOBALS_WORD → HasAt c.mem p ws → HasAt d.mem p ws
 has_kept c d p [] same le h = tt
 has_kept c d p (w ∷ ws) same le h = (same p (omega arith) ∙ h.0, has_kept c d (p + 1) ws same (omega arith) h.1)
 
@@ -30,7 +31,7 @@ place_at es s b k e f = rw (e, f) refl
 
 module _ {Form Path Data : Type 0} (M : Semantics Form Path Data) where
   -- the machine comes to the end of a link
-  end_before : (P : Program Form) (es : ℕ → Option Block) (marks : ℕ → Bool) (mem : List ℕ) (s : Spot) (d : Data) (older : List (Pending Path)) (c : Cpu) → HasImage M P es marks mem → IsEnd M es s → c.pc ≡ place_of es s → length c.mem ≡ memory_end → M.Holds d (hanging M es older) c → AllWait M P es older
+  end_before : (P : Program Form) (es : ℕ → Option Block) (marks : ℕ → Bool) (mem : List ℕ) (s : Spot) (d : Data) (older : List (Pending Path)) (c : Cpu) → HasImage M P es marks mem → IsEnd M es s → c.pc ≡ place_of es s → length c.mem ≡ MEMORY_END_WORD → M.Holds d (hanging M es older) c → AllWait M P es older
       → Before M P es (record { name = s.name; start = At s.part; data_now = d; older = older }) c
   end_before P es marks mem s d older c image e at long holds waits =
       let f = image.only s.name e.block e.entry in
@@ -39,7 +40,7 @@ module _ {Form Path Data : Type 0} (M : Semantics Form Path Data) where
   back_at : (es : ℕ → Option Block) (n : ℕ) (f : Path) (b : Block) (k : ℕ) → es n ≡ Some b → nth b.calls (M.number f) ≡ Some k → back_in M (es n) f ≡ b.place + (k + 2)
   back_at es n f b k e g = rw (e, g) refl
 
-  back_stands : (n : ℕ) (P : Program Form) (es : ℕ → Option Block) (d : Data) (older : List (Pending Path)) (c : Cpu) → length c.mem ≡ memory_end → AllWait M P es older → ToBack M n (hanging M es older) c d
+  back_stands : (n : ℕ) (P : Program Form) (es : ℕ → Option Block) (d : Data) (older : List (Pending Path)) (c : Cpu) → length c.mem ≡ MEMORY_END_WORD → AllWait M P es older → ToBack M n (hanging M es older) c d
       → (e : Cpu) × Runs n c e × Represents M P es (returned M P d older) e
   back_stands n P es d [] c long waits g = absurd g
   back_stands n P es d (a ∷ rest) c long waits (e, runs, at, holds) =
@@ -47,7 +48,7 @@ module _ {Form Path Data : Type 0} (M : Semantics Form Path Data) where
       (e, runs, record { form = w.form; has = w.has; fits = w.fits; block = w.block; entry = w.entry; offset = w.offset + 2; start = ap behind_call w.call; place = at ∙ back_at es a.name a.path w.block w.offset w.entry w.call; long = runs.long ∙ long; holds = holds; waits = waits.1 })
 
   exit_stands : (most_now : ℕ) (P : Program Form) (es : ℕ → Option Block) (marks : ℕ → Bool) (mem : List ℕ) (n : ℕ) (f : Form) (older : List (Pending Path)) (c : Cpu) (x : Exit Path Data)
-      → HasImage M P es marks mem → P.form n ≡ Some f → (l : Lies M P es marks mem n f) → length c.mem ≡ memory_end → AllWait M P es older
+      → HasImage M P es marks mem → P.form n ≡ Some f → (l : Lies M P es marks mem n f) → length c.mem ≡ MEMORY_END_WORD → AllWait M P es older
       → Gives M most_now f l.block l.block.place (λ to. place_of es (P.link_end n to)) (hanging M es older) c x
       → (e : Cpu) × Runs most_now c e × Represents M P es (moved M P n older x) e
   exit_stands most_now P es marks mem n f older c (Out to d) image has l long waits (e, runs, link, at, holds) =

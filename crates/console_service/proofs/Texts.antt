@@ -5,15 +5,16 @@ use Rattle.std.proofs.lemmas.Bool.Decides.{nat_tests}
 use Rattle.std.proofs.lemmas.List.{length-replicate}
 use Rattle.pdp11_machine.specs.State.{State}
 use Rattle.console_service.specs.declared.console.Served.TheVariants.{Done, Full}
-use Rattle.console_service.specs.Console.{ConsoleState, output_room, sign_of, size_of, integer_text, written}
+use Rattle.console_service.specs.Console.{ConsoleState, sign_of, size_of, integer_text, written}
+use Rattle.console_service.specs.declared.memory_map.TheConstants.{CONSOLE_ROOM_BYTES}
 
-pub written_fits : (text : List ℕ) (s : State) (k : ConsoleState) → length k.output + length text ≤ output_room → written text s k ≡ (s, record k { output = k.output ++ text }, Done)
+pub written_fits : (text : List ℕ) (s : State) (k : ConsoleState) → length k.output + length text ≤ CONSOLE_ROOM_BYTES → written text s k ≡ (s, record k { output = k.output ++ text }, Done)
 unfolding written
-written_fits text s k le = let fits : nat_le (length k.output + length text) output_room ≡ true = grind (arith, nat_tests) in rw fits refl
+written_fits text s k le = let fits : nat_le (length k.output + length text) CONSOLE_ROOM_BYTES ≡ true = grind (arith, nat_tests) in rw fits refl
 
-pub written_full : (text : List ℕ) (s : State) (k : ConsoleState) → output_room < length k.output + length text → written text s k ≡ (s, k, Full)
+pub written_full : (text : List ℕ) (s : State) (k : ConsoleState) → CONSOLE_ROOM_BYTES < length k.output + length text → written text s k ≡ (s, k, Full)
 unfolding written
-written_full text s k lt = let full : nat_le (length k.output + length text) output_room ≡ false = grind (arith, nat_tests) in rw full refl
+written_full text s k lt = let full : nat_le (length k.output + length text) CONSOLE_ROOM_BYTES ≡ false = grind (arith, nat_tests) in rw full refl
 
 pub length_text : (word width : ℕ) → length (integer_text word width) ≡ (width - (length (sign_of word) + length (decimal (size_of word)))) + length (sign_of word) + length (decimal (size_of word))
 unfolding integer_text

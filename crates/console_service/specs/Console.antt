@@ -1,16 +1,13 @@
 -- What clauses see of a console, and what its services do.
 use Rattle.std.specs.Prelude.{ℕ, ◌+◌, ◌-◌, Bool, ◌&&◌, ◌||◌, nat_eq, nat_lt, nat_le, if◌then◌else◌, List, [], ◌∷◌, ◌++◌, length, replicate, decimal}
 use Rattle.pdp11_machine.specs.State.{State, reg}
+use Rattle.console_service.specs.declared.memory_map.TheConstants.{CONSOLE_ROOM_BYTES}
 use Rattle.console_service.specs.declared.console.Served.{Served}
 use Rattle.console_service.specs.declared.console.Served.TheVariants.{Done, Finished, Error, Full}
 
 -- the bytes that were written and not yet drained
 pub record ConsoleState : Type 0 where
   pub output : List ℕ
-
--- how many bytes the output holds at most
-abbrev pub output_room : ℕ
-output_room = 65536
 
 -- the numbers of the services: the end of the program, an integer, a line end
 abbrev pub is_service : ℕ → Bool
@@ -33,7 +30,7 @@ integer_text word width = padded width (sign_of word ++ decimal (size_of word))
 
 -- a text goes behind the output where all of it has room
 unfoldable pub written : List ℕ → State → ConsoleState → State × ConsoleState × Served
-written text s k = if nat_le (length k.output + length text) output_room then (s, record k { output = k.output ++ text }, Done) else (s, k, Full)
+written text s k = if nat_le (length k.output + length text) CONSOLE_ROOM_BYTES then (s, record k { output = k.output ++ text }, Done) else (s, k, Full)
 
 abbrev pub integer_written : State → ConsoleState → State × ConsoleState × Served
 integer_written s k = if nat_le 1 (reg s 1) && nat_le (reg s 1) 255 then written (integer_text (reg s 0) (reg s 1)) s k else (s, k, Error 11)

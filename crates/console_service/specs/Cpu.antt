@@ -27,25 +27,6 @@ abbrev pub HasAt : List ℕ → ℕ → List ℕ → Type 0
 HasAt mem p [] = Unit {0}
 HasAt mem p (w ∷ ws) = (slice_index mem p ≡ w) × HasAt mem (p + 1) ws
 
--- the areas, as word numbers: code, patches, globals, heap, stack
-abbrev pub code_begin : ℕ
-code_begin = 256
-
-abbrev pub patch_begin : ℕ
-patch_begin = 10496
-
-abbrev pub globals_begin : ℕ
-globals_begin = 13568
-
-abbrev pub heap_begin : ℕ
-heap_begin = 17664
-
-abbrev pub stack_begin : ℕ
-stack_begin = 21760
-
-abbrev pub memory_end : ℕ
-memory_end = 28672
-
 -- the machine keeps R5, and its memory but for the words from one place up to another
 pub record Keeps (lo hi : ℕ) (c d : Cpu) : Type 0 where
   pub frame : d.r5 ≡ c.r5

@@ -4,7 +4,8 @@ use Rattle.dice_base.specs.declared.link.LinkTo.{LinkTo}
 use Rattle.console_service.specs.declared.instruction.Stop.{Stop}
 use Rattle.console_service.specs.declared.instruction.Stop.TheVariants as stop
 use Rattle.console_service.specs.Run.{gate_here, instruction, Stops}
-use Rattle.console_service.specs.Cpu.{Cpu, state_of, HasAt, Comes, globals_begin, memory_end}
+use Rattle.console_service.specs.Cpu.{Cpu, state_of, HasAt, Comes}
+use Rattle.console_service.specs.declared.memory_map.TheConstants.{GLOBALS_WORD, MEMORY_END_WORD}
 use Rattle.console_service.specs.Block.{Gate, Spot, Link, Block, laid, gate_word, or_zero, place_of}
 use Rattle.console_service.specs.Semantics.{Begin, At, Back, Exit, Out, Calls, Returns, Over, Fails, Hanging, Semantics}
 use Rattle.console_service.specs.Plain.{Program, Pending, Now, State, Goes, Ended, Failed, Stuck}
@@ -43,7 +44,7 @@ pub record IsBlock (b : Block) : Type 0 where
 -- the machine comes from one to the other, and no word below the globals changes
 pub record Runs (most : ℕ) (c d : Cpu) : Type 0 where
   pub comes : Comes most c d
-  pub kept : (k : ℕ) → k < globals_begin → slice_index d.mem k ≡ slice_index c.mem k
+  pub kept : (k : ℕ) → k < GLOBALS_WORD → slice_index d.mem k ≡ slice_index c.mem k
   pub long : length d.mem ≡ length c.mem
 
 -- the word that asks for the end of the program, and that of the trap of a run-time error
@@ -59,7 +60,7 @@ passed c = record c { pc = c.pc + 1 }
 
 -- the machine stands at a word that ends the run, and that instruction does nothing else
 pub record Halts (c : Cpu) (word : ℕ) (end : Stop) : Type 0 where
-  pub below : c.pc < globals_begin
+  pub below : c.pc < GLOBALS_WORD
   pub here : slice_index c.mem c.pc ≡ word
   pub stops : instruction (state_of c) ≡ Stops end (state_of (passed c))
   pub no_gate : gate_here (state_of c) ≡ false
@@ -99,7 +100,7 @@ module _ {Form Path Data : Type 0} (M : Semantics Form Path Data) where
   -- wherever the block lies, whatever its links and its gate are, it does what the form does
   abbrev pub Implements : Form → Block → Type 0
   Implements f b = (s : Begin Path) (k p g : ℕ) (q : LinkTo → ℕ) (d : Data) (hs : List (Hanging Path)) (c : Cpu)
-      → IsStart f s → M.IsGood f s d → start_at b s ≡ Some k → HasAt c.mem p (laid b g q) → p + length b.words ≤ globals_begin → length c.mem ≡ memory_end → M.Holds d hs c → c.pc ≡ p + (k + gate_length s)
+      → IsStart f s → M.IsGood f s d → start_at b s ≡ Some k → HasAt c.mem p (laid b g q) → p + length b.words ≤ GLOBALS_WORD → length c.mem ≡ MEMORY_END_WORD → M.Holds d hs c → c.pc ≡ p + (k + gate_length s)
       → Gives (M.most f s) f b p q hs c (M.does f s d)
 
   -- an end has its part
@@ -115,7 +116,7 @@ module _ {Form Path Data : Type 0} (M : Semantics Form Path Data) where
     pub entry : es n ≡ Some block
     pub is : IsBlock block
     pub implements : Implements f block
-    pub below : block.place + length block.words ≤ globals_begin
+    pub below : block.place + length block.words ≤ GLOBALS_WORD
     pub here : HasAt mem block.place (laid block (gate_word (marks n)) (λ to. place_of es (P.link_end n to)))
     pub ends : (to : LinkTo) → HasLink block.links to → IsEnd es (P.link_end n to)
 
@@ -158,7 +159,7 @@ module _ {Form Path Data : Type 0} (M : Semantics Form Path Data) where
     pub offset : ℕ
     pub start : start_at block s.start ≡ Some offset
     pub place : c.pc ≡ block.place + offset
-    pub long : length c.mem ≡ memory_end
+    pub long : length c.mem ≡ MEMORY_END_WORD
     pub holds : M.Holds s.data_now (hanging es s.older) c
     pub waits : AllWait P es s.older
 

@@ -1,7 +1,8 @@
 //! The console: the bytes that the program wrote, and the services that EMT instructions ask for.
 ghost use Rattle.std.specs.Prelude.{◌≡◌, ◌+◌, ◌≤◌, ◌∷◌, [], ◌++◌, length, take, drop, min, replicate, decimal, IfOk, IsTrue};
-ghost use Rattle.console_service.specs.Console.{ConsoleState, output_room, is_service, sign_of, size_of, integer_text, written, integer_written, served};
+ghost use Rattle.console_service.specs.Console.{ConsoleState, is_service, sign_of, size_of, integer_text, written, integer_written, served};
 
+use crate::CONSOLE_ROOM_BYTES;
 use circular_buffer::HeapCircularBuffer;
 use dice_base::NoMemory;
 use itoa::Buffer;
@@ -24,8 +25,6 @@ pub enum Served {
     BadPlace,
 }
 
-const OUTPUT_ROOM: usize = 65536;
-
 const SPACES: [u8; 255] = [b' '; 255];
 
 /// The console: an output of at most 65,536 bytes that were not yet drained.
@@ -37,12 +36,13 @@ pub struct Console {
 impl Model for Console {
     ghost use Rattle.std.specs.Prelude.{◌≡◌};
     ghost use Rattle.console_service.specs.Console.{ConsoleState};
+    ghost use Rattle.console_service.specs.declared.memory_map.TheConstants.{CONSOLE_ROOM_BYTES};
 
     ghost Value = { ConsoleState };
 
     ghost view = { λ c. record { output = c.output.items } };
 
-    ghost invariant = { λ c. c.output.capacity ≡ 65536 };
+    ghost invariant = { λ c. c.output.capacity ≡ CONSOLE_ROOM_BYTES };
 }
 
 impl Console {
@@ -50,13 +50,13 @@ impl Console {
     pub fn new(alloc: Global) -> Result<Console, NoMemory>
         ensures { IfOk result (λ c. c.output ≡ []) }
     {
-        let output = HeapCircularBuffer::with_capacity(alloc, OUTPUT_ROOM)?;
+        let output = HeapCircularBuffer::with_capacity(alloc, CONSOLE_ROOM_BYTES as usize)?;
         Ok(Console { output })
     }
 
     /// The number of bytes that may still be written.
     pub fn free(&self) -> u32
-        ensures { result + length self.now.output ≡ output_room }
+        ensures { result + length self.now.output ≡ CONSOLE_ROOM_BYTES }
     {
         (self.output.capacity() - self.output.len()) as u32
     }
@@ -132,7 +132,7 @@ impl Console {
     }
 
     fn append(&mut self, text: &[u8])
-        requires { length self.old.output + length text.now ≤ output_room }
+        requires { length self.old.output + length text.now ≤ CONSOLE_ROOM_BYTES }
         ensures { self.new ≡ record self.old { output = self.old.output ++ text.now } }
     {
         self.output.fill_from_slice(text);

@@ -7,7 +7,8 @@ use Rattle.std.proofs.lemmas.Bool.Decides.{nat_tests}
 use Rattle.std.proofs.lemmas.List.{append_assoc}
 use Rattle.pdp11_machine.specs.State.{State as MachineState, reg}
 use Rattle.console_service.specs.Console.{ConsoleState}
-use Rattle.console_service.specs.Cpu.{Cpu, code_begin, memory_end}
+use Rattle.console_service.specs.Cpu.{Cpu}
+use Rattle.console_service.specs.declared.memory_map.TheConstants.{CODE_WORD, MEMORY_END_WORD}
 use Rattle.target_monitor.specs.declared.gates.GoEnd.TheVariants as end
 use Rattle.target_monitor.specs.declared.gates.Went.{Went}
 use Rattle.target_monitor.specs.Go.{gone}
@@ -75,13 +76,13 @@ named_from p (s ∷ ss) m q len at e lo hi = by (s.name == m) refl e (λ h. name
 named_at : (ss : List Statement) (m q len at : ℕ) → place_of ss m ≡ Some (q, len) → q ≤ at → at < q + len → name_at ss at ≡ m
 named_at ss m q len at e lo hi = by (m == program_name) refl e
   where
-    by : (b : Bool) → (m == program_name) ≡ b → (if b then Some (code_begin, program_charge) else place_from (code_begin + program_charge) ss m) ≡ Some (q, len) → name_at ss at ≡ m
+    by : (b : Bool) → (m == program_name) ≡ b → (if b then Some (CODE_WORD, program_charge) else place_from (CODE_WORD + program_charge) ss m) ≡ Some (q, len) → name_at ss at ≡ m
     by true t h =
-        let (first, long) = parts_of code_begin program_charge q len h in
-        ap (λ b. if b then program_name else name_from (code_begin + program_charge) ss at) (below at (code_begin + program_charge) (omega (arith, first, long, hi))) ∙ sym (is_same m program_name t)
+        let (first, long) = parts_of CODE_WORD program_charge q len h in
+        ap (λ b. if b then program_name else name_from (CODE_WORD + program_charge) ss at) (below at (CODE_WORD + program_charge) (omega (arith, first, long, hi))) ∙ sym (is_same m program_name t)
     by false t h =
-        let r = named_from (code_begin + program_charge) ss m q len at h lo hi in
-        ap (λ b. if b then program_name else name_from (code_begin + program_charge) ss at) (not_below at (code_begin + program_charge) (omega (arith, r.behind, lo))) ∙ r.is
+        let r = named_from (CODE_WORD + program_charge) ss m q len at h lo hi in
+        ap (λ b. if b then program_name else name_from (CODE_WORD + program_charge) ss at) (not_below at (CODE_WORD + program_charge) (omega (arith, r.behind, lo))) ∙ r.is
 
 -- a word of a block tells the block's name
 name_in : (ss : List Statement) (blocks : ℕ → Option Block) (n : ℕ) (b : Block) (at : ℕ) → ((n : ℕ) → placed (blocks n) ≡ place_of ss n) → blocks n ≡ Some b → InWords b.place b at → name_at ss at ≡ n
@@ -215,8 +216,8 @@ module _ (ss : List Statement) (es : ℕ → Option Block) (places : (n : ℕ) �
 
 -- ---- the whole
 
-pub after : (ss : List Statement) (is : IsProgram ss) (es : ℕ → Option Block) (gates : ℕ) (t : PascalState) (r : MachineState × ConsoleState × Went) → ((n : ℕ) → placed (es n) ≡ place_of ss n) → HasParts es → length r.0.memory ≡ memory_end → Gone ss is es gates t r → After ss t r
-after ss is es gates t r places parts long g = subst (After ss t) (sym g.tells) (left_after (subst (λ r. length r.0.memory ≡ memory_end) g.tells long))
+pub after : (ss : List Statement) (is : IsProgram ss) (es : ℕ → Option Block) (gates : ℕ) (t : PascalState) (r : MachineState × ConsoleState × Went) → ((n : ℕ) → placed (es n) ≡ place_of ss n) → HasParts es → length r.0.memory ≡ MEMORY_END_WORD → Gone ss is es gates t r → After ss t r
+after ss is es gates t r places parts long g = subst (After ss t) (sym g.tells) (left_after (subst (λ r. length r.0.memory ≡ MEMORY_END_WORD) g.tells long))
   where
     left : LeftBy ss es gates g.count t.status t g.cpu
     left = left_in ss es places parts gates g.count t.status t g.cpu g.formed g.image g.stands
@@ -224,7 +225,7 @@ after ss is es gates t r places parts long g = subst (After ss t) (sym g.tells) 
     c : Cpu
     c = left_at (stage_of t) g.cpu
 
-    left_after : length c.mem ≡ memory_end → After ss t (told gates g.count (stage_of t) g.cpu)
+    left_after : length c.mem ≡ MEMORY_END_WORD → After ss t (told gates g.count (stage_of t) g.cpu)
     left_after long = record {
       output = left.output;
       over = left.over;
@@ -246,7 +247,7 @@ after ss is es gates t r places parts long g = subst (After ss t) (sym g.tells) 
 -- ---- what is said of a run
 
 pub ran : (ss : List Statement) (gates : ℕ) (s : PascalState) (machine : MachineState) (console : ConsoleState) (before after_all : List ℕ) (r : MachineState × ConsoleState × Went) (k : ConsoleState)
-    → IsProgram ss → 1 ≤ gates → r ≡ gone gates machine console → length r.0.memory ≡ memory_end → k.output ≡ []
+    → IsProgram ss → 1 ≤ gates → r ≡ gone gates machine console → length r.0.memory ≡ MEMORY_END_WORD → k.output ≡ []
     → after_all ≡ (before ++ written_part r.1.output) ++ ending_told ss r.2.end (reg r.0 7 / 2) → CanRunFrom ss s machine console → Ran ss gates s (ends r.2.end) before after_all r.0 k
 ran ss gates s machine console before after_all r k is some same long empty told h =
     let t = run_of (program_of ss) gates s in

@@ -4,7 +4,8 @@ use Rattle.std.specs.Prelude.{◌==◌, if◌then◌else◌, find}
 use Rattle.pdp11_machine.specs.State.{State as MachineState}
 use Rattle.console_service.specs.Console.{ConsoleState}
 use Rattle.console_service.specs.Run.{gate_here}
-use Rattle.console_service.specs.Cpu.{Cpu, state_of, memory_end}
+use Rattle.console_service.specs.Cpu.{Cpu, state_of}
+use Rattle.console_service.specs.declared.memory_map.TheConstants.{MEMORY_END_WORD}
 use Rattle.target_monitor.specs.declared.gates.Went.{Went}
 use Rattle.target_monitor.specs.Go.{instruction_limit, gone}
 use Rattle.simulation.specs.Gates.{told, drive_from, gates_from, gates_passed}
@@ -113,7 +114,7 @@ run_gone ss is s gates machine console some formed can h = subst (λ m. Gone ss 
     words : AreWords s.globals
     words = h.represents.variables.small
 
-    begin : AtBegin (h.blocks program_name) c → c.sp ≡ memory_end → Gone ss is h.blocks gates (driven gates P (started_by NotStarted P (unwritten s))) (gone gates (state_of c).0 (state_of c).1)
+    begin : AtBegin (h.blocks program_name) c → c.sp ≡ MEMORY_END_WORD → Gone ss is h.blocks gates (driven gates P (started_by NotStarted P (unwritten s))) (gone gates (state_of c).0 (state_of c).1)
     begin at sp =
         begin_gone ss is h.blocks gates s c words at.no_gate h.image
         (record { form = ProgramBlock; has = refl; fits = tt; block = at.lies; entry = at.is; offset = 0; start = at.begin; place = omega (arith, at.place); long = h.long; holds = record { globals_are = h.represents.variables; frame = sp; console = h.represents.console }; waits = tt })

@@ -7,7 +7,8 @@ use Rattle.std.proofs.lemmas.Bool.{cases_lt}
 use Rattle.pdp11_machine.specs.State.{State as MachineState, with_word, zero_machine}
 use Rattle.console_service.specs.Console.{ConsoleState}
 use Rattle.console_service.specs.Run.{gate_here}
-use Rattle.console_service.specs.Cpu.{Cpu, state_of, HasAt, code_begin, globals_begin, memory_end}
+use Rattle.console_service.specs.Cpu.{Cpu, state_of, HasAt}
+use Rattle.console_service.specs.declared.memory_map.TheConstants.{CODE_WORD, GLOBALS_WORD, MEMORY_END_WORD}
 use Rattle.pascal_semantics.specs.declared.form.Statement.{Statement}
 use Rattle.pascal_semantics.specs.Charge.{program_charge}
 use Rattle.pascal_semantics.specs.State.{loaded_state}
@@ -92,7 +93,7 @@ loaded_stands ss ws is l k empty = record {
   image = l.image mem long here;
   represents = record {
     control = record { lies = l.parts.program; is = l.parts.entry; begin = l.parts.begin; place = sym at.0; at = refl; no_gate = no_gate mem k (slice_index ws 0) (has_first mem 256 ws (omega (arith, l.long)) here) l.first };
-    variables = record { count = length-replicate {A = ℕ} 4096 0; small = λ n. small n; each = λ n lt. behind (globals_begin + n) (omega arith) ∙ sym (zeros 4096 n) };
+    variables = record { count = length-replicate {A = ℕ} 4096 0; small = λ n. small n; each = λ n lt. behind (GLOBALS_WORD + n) (omega arith) ∙ sym (zeros 4096 n) };
     frames = (refl, λ n le. behind n le);
     console = empty;
   };
@@ -104,20 +105,20 @@ loaded_stands ss ws is l k empty = record {
     c : Cpu
     c = loaded_cpu mem k
 
-    long : length mem ≡ memory_end
+    long : length mem ≡ MEMORY_END_WORD
     long = with_long (replicate 28672 0) 256 ws ∙ length-replicate {A = ℕ} 28672 0
 
     most : 256 + length ws ≤ 10496
     most = omega (arith, l.long, is.fits)
 
-    here : HasAt mem code_begin ws
+    here : HasAt mem CODE_WORD ws
     here = with_at (replicate 28672 0) 256 ws (omega (arith, most, length-replicate {A = ℕ} 28672 0))
 
-    behind : (n : ℕ) → globals_begin ≤ n → slice_index mem n ≡ 0
+    behind : (n : ℕ) → GLOBALS_WORD ≤ n → slice_index mem n ≡ 0
     behind n le = with_kept (replicate 28672 0) 256 ws n (inr (omega (arith, most, le))) ∙ zeros 28672 n
 
     small : (n : ℕ) → slice_index (replicate 4096 0) n < 65536
     small n = omega (arith, zeros 4096 n)
 
-    at : (l.parts.program.place ≡ code_begin) × (length l.parts.program.words ≡ program_charge)
-    at = parts_of l.parts.program.place (length l.parts.program.words) code_begin program_charge (sym (ap placed l.parts.entry) ∙ l.places program_name)
+    at : (l.parts.program.place ≡ CODE_WORD) × (length l.parts.program.words ≡ program_charge)
+    at = parts_of l.parts.program.place (length l.parts.program.words) CODE_WORD program_charge (sym (ap placed l.parts.entry) ∙ l.places program_name)

@@ -1,7 +1,7 @@
 -- What the debugger tells from places of the machine, and the words that it writes there.
 use Rattle.std.specs.Prelude.{ℕ, ◌+◌, ◌-◌, ◌*◌, nat_lt, Bool, true, false, if◌then◌else◌, List, [], ◌∷◌, ◌++◌, codes}
 use Rattle.std.specs.Fmt.{decimal}
-use Rattle.console_service.specs.Cpu.{code_begin}
+use Rattle.console_service.specs.declared.memory_map.TheConstants.{CODE_WORD}
 use Rattle.pascal_semantics.specs.declared.form.Statement.{Statement}
 use Rattle.pascal_semantics.specs.Charge.{charge_of, program_charge}
 use Rattle.pascal_semantics.specs.Valid.{program_name}
@@ -17,7 +17,7 @@ name_from finish (s ∷ ss) place = if nat_lt place (finish + charge_of s.form) 
 
 -- the same among all blocks of the program, whose own name stands for all words before the statements
 abbrev pub name_at : List Statement → ℕ → ℕ
-name_at ss place = if nat_lt place (code_begin + program_charge) then program_name else name_from (code_begin + program_charge) ss place
+name_at ss place = if nat_lt place (CODE_WORD + program_charge) then program_name else name_from (CODE_WORD + program_charge) ss place
 
 -- what is told of a run that ended so, with PC at this word number
 abbrev pub ending_told : List Statement → GoEnd → ℕ → List ℕ

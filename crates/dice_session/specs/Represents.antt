@@ -2,7 +2,8 @@
 -- the frames; the console. All places are word numbers, and the machine's stack and program stand at whole words.
 use Rattle.std.specs.Prelude.{◌≡◌, ℕ, ◌+◌, ◌≤◌, false, List, [], ◌∷◌, slice_index, Option, Some}
 use Rattle.console_service.specs.Run.{gate_here}
-use Rattle.console_service.specs.Cpu.{Cpu, state_of, code_begin, globals_begin, memory_end}
+use Rattle.console_service.specs.Cpu.{Cpu, state_of}
+use Rattle.console_service.specs.declared.memory_map.TheConstants.{CODE_WORD, GLOBALS_WORD, MEMORY_END_WORD}
 use Rattle.console_service.specs.Block.{First, Gate, Block}
 use Rattle.console_service.specs.Image.{InWords, end_word, trap_word}
 use Rattle.pascal_semantics.specs.Valid.{program_name}
@@ -16,7 +17,7 @@ pub record AtBegin (block : Option Block) (c : Cpu) : Type 0 where
   pub is : block ≡ Some lies
   pub begin : lies.part_at First ≡ Some 0
   pub place : c.pc ≡ lies.place
-  pub at : c.pc ≡ code_begin
+  pub at : c.pc ≡ CODE_WORD
   pub no_gate : gate_here (state_of c) ≡ false
 
 -- the machine stands at the gate of a block, its first word
@@ -50,7 +51,7 @@ StandsAt blocks (Failed error name) activations c = Behind (blocks name) (trap_w
 
 -- the frames: none, and all words behind the patch area zero, before the start; the program's at a gate
 abbrev pub FramesStand : Status → Cpu → Type 0
-FramesStand NotStarted c = (c.sp ≡ memory_end) × ((k : ℕ) → globals_begin ≤ k → slice_index c.mem k ≡ 0)
+FramesStand NotStarted c = (c.sp ≡ MEMORY_END_WORD) × ((k : ℕ) → GLOBALS_WORD ≤ k → slice_index c.mem k ≡ 0)
 FramesStand Halted c = HasFrame c
 FramesStand other c = Unit {0}
 

@@ -3,7 +3,8 @@
 use Rattle.std.specs.Prelude.{◌≡◌, ℕ, Bool, false, List, [], ◌∷◌, ◌++◌, length, Option, Some}
 use Rattle.pdp11_machine.specs.State.{State as MachineState}
 use Rattle.console_service.specs.Console.{ConsoleState}
-use Rattle.console_service.specs.Cpu.{Cpu, state_of, memory_end}
+use Rattle.console_service.specs.Cpu.{Cpu, state_of}
+use Rattle.console_service.specs.declared.memory_map.TheConstants.{MEMORY_END_WORD}
 use Rattle.console_service.specs.Block.{Block}
 use Rattle.console_service.specs.Image.{HasImage}
 use Rattle.image_plan.specs.Links.{blocks_of}
@@ -43,7 +44,7 @@ CanRun s = CanRunBy s.status
 pub record Simulates (ss : List Statement) (s : State) (machine : MachineState) (console : ConsoleState) : Type 0 where
   pub cpu : Cpu
   pub is : state_of cpu ≡ (machine, console)
-  pub long : length cpu.mem ≡ memory_end
+  pub long : length cpu.mem ≡ MEMORY_END_WORD
   pub blocks : ℕ → Option Block
   pub places : (n : ℕ) → placed (blocks n) ≡ place_of ss n
   pub parts : HasParts blocks

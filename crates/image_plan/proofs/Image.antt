@@ -4,7 +4,8 @@ use Rattle.std.specs.Prelude.{slice_index, ◌==◌, if◌then◌else◌, find}
 use Rattle.std.proofs.Math.ListN.{get_or-append}
 use Rattle.std.proofs.lemmas.List.{get_or-set_other}
 use Rattle.dice_base.specs.declared.link.LinkTo.{LinkTo}
-use Rattle.console_service.specs.Cpu.{HasAt, code_begin, globals_begin}
+use Rattle.console_service.specs.Cpu.{HasAt}
+use Rattle.console_service.specs.declared.memory_map.TheConstants.{CODE_WORD, GLOBALS_WORD}
 use Rattle.console_service.proofs.Compose.{has_front, has_back}
 use Rattle.console_service.specs.declared.block.BlockCode.{BlockCode}
 use Rattle.console_service.specs.Block.{Gate, Block, laid, linked, or_zero, place_in, place_of}
@@ -83,7 +84,7 @@ block_placed p (s ∷ ss) (c ∷ cs) m h = by (s.name == m) (block_placed (p + l
 leads_all : (program : BlockCode) (ss : List Statement) (codes : List BlockCode) (fin : ℕ) (t : Target) (target : ℕ) → ((k : ℕ) → t ≡ GateOf k → program_name ≢ k) → LeadsTo (blocks_from (first_place program) ss codes) fin t target → LeadsTo (all_blocks program ss codes) fin t target
 leads_all program ss codes fin (GateOf k) target other (code, e, g) =
     let ne : k ≢ program_name = λ x. other k refl (sym x) in
-    (code, ap (λ b. if b then Some (block_of code_begin program) else blocks_from (first_place program) ss codes k) (other_test k program_name ne) ∙ e, g)
+    (code, ap (λ b. if b then Some (block_of CODE_WORD program) else blocks_from (first_place program) ss codes k) (other_test k program_name ne) ∙ e, g)
 leads_all program ss codes fin Finish target other e = e
 
 module _ (ss : List Statement) (program : BlockCode) (codes : List BlockCode) (valid : IsProgram ss) (is : IsCodeOf ProgramBlock program) (parts : IsProgramCode program) (are : AreCodes ss codes) where
@@ -96,7 +97,7 @@ module _ (ss : List Statement) (program : BlockCode) (codes : List BlockCode) (v
   abbrev fin : ℕ
   fin = finish_place program
 
-  program_entry : es program_name ≡ Some (block_of code_begin program)
+  program_entry : es program_name ≡ Some (block_of CODE_WORD program)
   program_entry = refl
 
   -- the place of an end is where the link leads
@@ -106,7 +107,7 @@ module _ (ss : List Statement) (program : BlockCode) (codes : List BlockCode) (v
 
   lead_end : (t : Target) (target : ℕ) → LeadsTo es fin t target → IsEnd simple es (spot_of t)
   lead_end (GateOf k) target (code, e, g) = record { block = block_of target code; entry = e; offset = 0; part = g }
-  lead_end Finish target e = record { block = block_of code_begin program; entry = program_entry; offset = parts.end_offset; part = parts.end }
+  lead_end Finish target e = record { block = block_of CODE_WORD program; entry = program_entry; offset = parts.end_offset; part = parts.end }
 
   only_link : (code : BlockCode) (to : LinkTo) (h : HasLinkWord code to) (other : LinkTo) → HasLink (map link_of code.links.items) other → to ≡ other
   only_link code to h other x = by (subst (λ ls. HasLink (map link_of ls) other) h.only x)
@@ -115,26 +116,26 @@ module _ (ss : List Statement) (program : BlockCode) (codes : List BlockCode) (v
       by (inl e) = sym h.leads ∙ e
       by (inr e) = absurd e
 
-  words_room : first_place program + words_in codes ≤ globals_begin
+  words_room : first_place program + words_in codes ≤ GLOBALS_WORD
   words_room = omega (arith, is.long, codes_long ss codes are, valid.fits)
 
   program_leads : LeadsTo es fin P.entry (next_place (first_place program) fin codes)
   program_leads = leads_all program ss codes fin (entry_of ss) (next_place (first_place program) fin codes) (λ k. entry_free program_name ss k valid.free) (entry_leads (first_place program) fin ss codes are)
 
-  program_lies : (mem : List ℕ) → HasAt mem code_begin (laid_to program (next_place (first_place program) fin codes)) → Lies simple (blocks_of P) es (λ n. false) mem program_name ProgramBlock
+  program_lies : (mem : List ℕ) → HasAt mem CODE_WORD (laid_to program (next_place (first_place program) fin codes)) → Lies simple (blocks_of P) es (λ n. false) mem program_name ProgramBlock
   program_lies mem here =
       let target = next_place (first_place program) fin codes in
       let link = parts.link in
       let q : LinkTo → ℕ = λ to. place_of es ((blocks_of P).link_end program_name to) in
       let at : q link.link.to ≡ target = lead_place P.entry target program_leads in
-      let words : laid (block_of code_begin program) 160 q ≡ laid_to program target = ap (λ ws. linked ws (map link_of program.links.items) q) (no_gate_set program parts.gate) ∙ one_link program.words.items program.links.items link.link q target link.only at in
+      let words : laid (block_of CODE_WORD program) 160 q ≡ laid_to program target = ap (λ ws. linked ws (map link_of program.links.items) q) (no_gate_set program parts.gate) ∙ one_link program.words.items program.links.items link.link q target link.only at in
       record {
-        block = block_of code_begin program;
+        block = block_of CODE_WORD program;
         entry = program_entry;
-        is = is.block code_begin;
-        implements = is.implements code_begin;
+        is = is.block CODE_WORD;
+        implements = is.implements CODE_WORD;
         below = omega (arith, is.long);
-        here = subst (HasAt mem code_begin) (sym words) here;
+        here = subst (HasAt mem CODE_WORD) (sym words) here;
         ends = λ to h. lead_end P.entry target program_leads;
       }
 
@@ -151,7 +152,7 @@ module _ (ss : List Statement) (program : BlockCode) (codes : List BlockCode) (v
       let words : laid (block_of f.place f.code) 160 q ≡ laid_to f.code f.target = ap (λ ws. linked ws (map link_of f.code.links.items) q) (gate_set f.code f.parts some) ∙ one_link f.code.words.items f.code.links.items link.link q f.target link.only at in
       record {
         block = block_of f.place f.code;
-        entry = ap (λ b. if b then Some (block_of code_begin program) else blocks_from (first_place program) ss codes m) other ∙ f.entry;
+        entry = ap (λ b. if b then Some (block_of CODE_WORD program) else blocks_from (first_place program) ss codes m) other ∙ f.entry;
         is = f.is.block f.place;
         implements = f.is.implements f.place;
         below = omega (arith, f.below, words_room);
@@ -159,17 +160,17 @@ module _ (ss : List Statement) (program : BlockCode) (codes : List BlockCode) (v
         ends = λ to h. subst (IsEnd simple es) (sym (spot to)) (lead_end row.continuation f.target leads);
       }
 
-  lies : (mem : List ℕ) → HasAt mem code_begin (image_words program codes) → (n : ℕ) (f : BlockForm) → (blocks_of P).form n ≡ Some f → Lies simple (blocks_of P) es (λ n. false) mem n f
+  lies : (mem : List ℕ) → HasAt mem CODE_WORD (image_words program codes) → (n : ℕ) (f : BlockForm) → (blocks_of P).form n ≡ Some f → Lies simple (blocks_of P) es (λ n. false) mem n f
   lies mem here n f has = by (n == program_name) refl has
     where
       target : ℕ
       target = next_place (first_place program) fin codes
 
-      front : HasAt mem code_begin (laid_to program target)
-      front = has_front mem code_begin (laid_to program target) (statements_laid (first_place program) fin codes) here
+      front : HasAt mem CODE_WORD (laid_to program target)
+      front = has_front mem CODE_WORD (laid_to program target) (statements_laid (first_place program) fin codes) here
 
       back : HasAt mem (first_place program) (statements_laid (first_place program) fin codes)
-      back = subst (λ k. HasAt mem (code_begin + k) (statements_laid (first_place program) fin codes)) (laid_long program target) (has_back mem code_begin (laid_to program target) (statements_laid (first_place program) fin codes) here)
+      back = subst (λ k. HasAt mem (CODE_WORD + k) (statements_laid (first_place program) fin codes)) (laid_long program target) (has_back mem CODE_WORD (laid_to program target) (statements_laid (first_place program) fin codes) here)
 
       by_row : (o : Option Row) → (n == program_name) ≡ false → row_of P n ≡ o → form_of o ≡ Some f → Lies simple (blocks_of P) es (λ n. false) mem n f
       by_row None other e h = absurd (grind (arith, h))
@@ -182,27 +183,27 @@ module _ (ss : List Statement) (program : BlockCode) (codes : List BlockCode) (v
   only : (n : ℕ) (b : Block) → es n ≡ Some b → (f : BlockForm) × ((blocks_of P).form n ≡ Some f)
   only n b e = by (n == program_name) refl e
     where
-      by : (t : Bool) → (n == program_name) ≡ t → (if t then Some (block_of code_begin program) else blocks_from (first_place program) ss codes n) ≡ Some b → (f : BlockForm) × ((blocks_of P).form n ≡ Some f)
+      by : (t : Bool) → (n == program_name) ≡ t → (if t then Some (block_of CODE_WORD program) else blocks_from (first_place program) ss codes n) ≡ Some b → (f : BlockForm) × ((blocks_of P).form n ≡ Some f)
       by true t h = (ProgramBlock, ap (λ x. if x then Some ProgramBlock else form_of (row_of P n)) t)
       by false t h = let (row, found) = block_row (first_place program) ss codes n b h in (StatementBlock row.form, ap (λ x. if x then Some ProgramBlock else form_of (row_of P n)) t ∙ ap form_of found)
 
   apart : (m n : ℕ) (b d : Block) (j k : ℕ) → es m ≡ Some b → es n ≡ Some d → j < length b.words → k < length d.words → b.place + j ≡ d.place + k → m ≡ n
   apart m n b d j k e f lj lk at = by (m == program_name) refl e (n == program_name) refl f
     where
-      by : (s : Bool) → (m == program_name) ≡ s → (if s then Some (block_of code_begin program) else blocks_from (first_place program) ss codes m) ≡ Some b → (t : Bool) → (n == program_name) ≡ t → (if t then Some (block_of code_begin program) else blocks_from (first_place program) ss codes n) ≡ Some d → m ≡ n
+      by : (s : Bool) → (m == program_name) ≡ s → (if s then Some (block_of CODE_WORD program) else blocks_from (first_place program) ss codes m) ≡ Some b → (t : Bool) → (n == program_name) ≡ t → (if t then Some (block_of CODE_WORD program) else blocks_from (first_place program) ss codes n) ≡ Some d → m ≡ n
       by true s g true t h = is_same m program_name s ∙ sym (is_same n program_name t)
-      by true s g false t h = let same : block_of code_begin program ≡ b = cc g in let r = block_ranged (first_place program) ss codes n d h in absurd (omega (arith, r.above, lj, at, ap (λ k. k.place) same, ap (λ k. length k.words) same))
-      by false s g true t h = let same : block_of code_begin program ≡ d = cc h in let r = block_ranged (first_place program) ss codes m b g in absurd (omega (arith, r.above, lk, at, ap (λ k. k.place) same, ap (λ k. length k.words) same))
+      by true s g false t h = let same : block_of CODE_WORD program ≡ b = cc g in let r = block_ranged (first_place program) ss codes n d h in absurd (omega (arith, r.above, lj, at, ap (λ k. k.place) same, ap (λ k. length k.words) same))
+      by false s g true t h = let same : block_of CODE_WORD program ≡ d = cc h in let r = block_ranged (first_place program) ss codes m b g in absurd (omega (arith, r.above, lk, at, ap (λ k. k.place) same, ap (λ k. length k.words) same))
       by false s g false t h = blocks_apart (first_place program) ss codes m n b d j k g h lj lk at
 
   all_placed : (n : ℕ) → placed (es n) ≡ load.place_of ss n
   all_placed n = by (n == program_name)
     where
-      at : first_place program ≡ code_begin + program_charge
+      at : first_place program ≡ CODE_WORD + program_charge
       at = omega (arith, is.long)
 
-      by : (t : Bool) → placed (if t then Some (block_of code_begin program) else blocks_from (first_place program) ss codes n) ≡ (if t then Some (code_begin, program_charge) else place_from (code_begin + program_charge) ss n)
-      by true = ap (λ k. Some (code_begin, k)) is.long
+      by : (t : Bool) → placed (if t then Some (block_of CODE_WORD program) else blocks_from (first_place program) ss codes n) ≡ (if t then Some (CODE_WORD, program_charge) else place_from (CODE_WORD + program_charge) ss n)
+      by true = ap (λ k. Some (CODE_WORD, k)) is.long
       by false = block_placed (first_place program) ss codes n are ∙ ap (λ k. place_from k ss n) at
 
   -- a gate is the first word of its block
@@ -218,8 +219,8 @@ module _ (ss : List Statement) (program : BlockCode) (codes : List BlockCode) (v
   all_gates : (n : ℕ) (b : Block) (k : ℕ) → es n ≡ Some b → b.part_at Gate ≡ Some k → k ≡ 0
   all_gates n b k e g = by (n == program_name) e
     where
-      by : (t : Bool) → (if t then Some (block_of code_begin program) else blocks_from (first_place program) ss codes n) ≡ Some b → k ≡ 0
-      by true x = let same : block_of code_begin program ≡ b = cc x in let y : None ≡ Some k = sym parts.gate ∙ ap (λ z. z.part_at Gate) same ∙ g in absurd (grind (arith, y))
+      by : (t : Bool) → (if t then Some (block_of CODE_WORD program) else blocks_from (first_place program) ss codes n) ≡ Some b → k ≡ 0
+      by true x = let same : block_of CODE_WORD program ≡ b = cc x in let y : None ≡ Some k = sym parts.gate ∙ ap (λ z. z.part_at Gate) same ∙ g in absurd (grind (arith, y))
       by false x = gates_first (first_place program) ss codes n b k are x g
 
   -- the first word is that of the program's block
@@ -239,7 +240,7 @@ module _ (ss : List Statement) (program : BlockCode) (codes : List BlockCode) (v
         long = ap length e ∙ omega (arith, length-append (laid_to program target) (statements_laid (first_place program) fin codes), laid_long program target, statements_long (first_place program) fin codes, is.long, codes_long ss codes are);
         blocks = es;
         places = all_placed;
-        parts = record { program = block_of code_begin program; entry = program_entry; begin = ap first_of parts.gate; gates = all_gates };
+        parts = record { program = block_of CODE_WORD program; entry = program_entry; begin = ap first_of parts.gate; gates = all_gates };
         first = subst IsNoGate (sym (ap (λ w. slice_index w 0) e ∙ first_word)) parts.first;
-        image = λ mem long here. record { each = lies mem (subst (HasAt mem code_begin) e here); only = only; apart = apart };
+        image = λ mem long here. record { each = lies mem (subst (HasAt mem CODE_WORD) e here); only = only; apart = apart };
       }

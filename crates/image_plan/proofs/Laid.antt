@@ -4,7 +4,8 @@ use Rattle.std.specs.Prelude.{slice_index, slice_set, ◌==◌, if◌then◌else
 use Rattle.std.proofs.lemmas.Bool.Decides.{nat_tests}
 use Rattle.dice_base.specs.declared.link.LinkTo.{LinkTo}
 use Rattle.dice_base.specs.declared.link.LinkWord.{LinkWord}
-use Rattle.console_service.specs.Cpu.{HasAt, code_begin}
+use Rattle.console_service.specs.Cpu.{HasAt}
+use Rattle.console_service.specs.declared.memory_map.TheConstants.{CODE_WORD}
 use Rattle.console_service.proofs.Compose.{has_front, has_back}
 use Rattle.console_service.specs.declared.block.BlockCode.{BlockCode}
 use Rattle.console_service.specs.Block.{Block, linked, set_at}
@@ -25,7 +26,7 @@ blocks_from p (s ∷ ss) [] m = None
 blocks_from p (s ∷ ss) (c ∷ cs) m = if s.name == m then Some (block_of p c) else blocks_from (p + length c.words.items) ss cs m
 
 abbrev pub all_blocks : BlockCode → List Statement → List BlockCode → ℕ → Option Block
-all_blocks program ss codes m = if m == program_name then Some (block_of code_begin program) else blocks_from (first_place program) ss codes m
+all_blocks program ss codes m = if m == program_name then Some (block_of CODE_WORD program) else blocks_from (first_place program) ss codes m
 
 pub same_test : (m n : ℕ) → m ≡ n → (m == n) ≡ true
 same_test m n e = grind (arith, nat_tests)

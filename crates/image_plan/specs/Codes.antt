@@ -1,7 +1,7 @@
 -- The words of blocks of code that are laid one behind the other, each with its one link word.
 use Rattle.std.specs.Prelude.{◌≡◌, ℕ, ◌+◌, ◌<◌, List, [], ◌∷◌, ◌++◌, length, map}
 use Rattle.dice_base.specs.declared.link.LinkWord.{LinkWord}
-use Rattle.console_service.specs.Cpu.{code_begin}
+use Rattle.console_service.specs.declared.memory_map.TheConstants.{CODE_WORD}
 use Rattle.console_service.specs.declared.block.BlockCode.{BlockCode}
 use Rattle.console_service.specs.Block.{linked, or_zero}
 use Rattle.console_service.specs.BlockOf.{link_of}
@@ -44,10 +44,10 @@ statements_laid place finish (c ∷ cs) = laid_to c (next_place (place + length 
 
 -- the program's block at the begin of the code area, and those of its statements behind it
 abbrev pub first_place : BlockCode → ℕ
-first_place program = code_begin + length program.words.items
+first_place program = CODE_WORD + length program.words.items
 
 abbrev pub finish_place : BlockCode → ℕ
-finish_place program = code_begin + or_zero program.end
+finish_place program = CODE_WORD + or_zero program.end
 
 abbrev pub image_words : BlockCode → List BlockCode → List ℕ
 image_words program codes = laid_to program (next_place (first_place program) (finish_place program) codes) ++ statements_laid (first_place program) (finish_place program) codes

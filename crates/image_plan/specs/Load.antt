@@ -1,6 +1,7 @@
--- The blocks of a whole load: the program's block at byte 512, and all other blocks behind it in text order.
+-- The blocks of a whole load: the program's block at the begin of the code area, and all other blocks behind it in text order.
 use Rattle.std.specs.Prelude.{◌≡◌, ℕ, ◌+◌, ◌==◌, if◌then◌else◌, false, List, [], ◌∷◌, length, Option, Some, None, slice_index}
-use Rattle.console_service.specs.Cpu.{HasAt, code_begin, memory_end}
+use Rattle.console_service.specs.Cpu.{HasAt}
+use Rattle.console_service.specs.declared.memory_map.TheConstants.{CODE_WORD, MEMORY_END_WORD}
 use Rattle.console_service.specs.Block.{First, Gate, Block}
 use Rattle.console_service.specs.Image.{HasImage}
 use Rattle.pascal_semantics.specs.declared.form.Statement.{Statement}
@@ -18,7 +19,7 @@ place_from p (s ∷ ss) m = if s.name == m then Some (p, charge_of s.form) else 
 
 -- where the block of a name lies, and how many words it has
 abbrev pub place_of : List Statement → ℕ → Option (ℕ × ℕ)
-place_of ss m = if m == program_name then Some (code_begin, program_charge) else place_from (code_begin + program_charge) ss m
+place_of ss m = if m == program_name then Some (CODE_WORD, program_charge) else place_from (CODE_WORD + program_charge) ss m
 
 abbrev pub placed : Option Block → Option (ℕ × ℕ)
 placed None = None
@@ -31,11 +32,11 @@ pub record HasParts (blocks : ℕ → Option Block) : Type 0 where
   pub begin : program.part_at First ≡ Some 0
   pub gates : (n : ℕ) (b : Block) (k : ℕ) → blocks n ≡ Some b → b.part_at Gate ≡ Some k → k ≡ 0
 
--- these words, laid from byte 512 on, are the program's blocks, each at its place, with no break set
+-- these words, laid from the begin of the code area on, are the program's blocks, each at its place, with no break set
 pub record IsLoad (ss : List Statement) (words : List ℕ) : Type 0 where
   pub long : length words ≡ program_charge + charges_of ss
   pub blocks : ℕ → Option Block
   pub places : (n : ℕ) → placed (blocks n) ≡ place_of ss n
   pub parts : HasParts blocks
   pub first : IsNoGate (slice_index words 0)
-  pub image : (mem : List ℕ) → length mem ≡ memory_end → HasAt mem code_begin words → HasImage simple (blocks_of (program_of ss)) blocks (λ n. false) mem
+  pub image : (mem : List ℕ) → length mem ≡ MEMORY_END_WORD → HasAt mem CODE_WORD words → HasImage simple (blocks_of (program_of ss)) blocks (λ n. false) mem

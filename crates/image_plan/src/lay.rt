@@ -2,12 +2,14 @@
 ghost use Rattle.std.specs.Prelude.{◌≡◌, ◌+◌, ◌≤◌, ◌<◌, ◌*◌, ◌++◌, length, IfOk, OnOk, IfSome};
 ghost use Rattle.image_plan.specs.Codes.{HasOneLink, AllHaveOneLink, laid_to, next_place, statements_laid, image_words, words_in};
 
+use console_service::{CODE_ROOM_WORDS, CODE_WORD, MEMORY_END_WORD};
 use dice_base::NoMemory;
+use pascal_semantics::MAX_PROGRAM_WORDS;
 use statement_code::BlockCode;
 use std::alloc::Global;
 
-/// The word number at which the code area begins.
-const CODE_BEGIN: u16 = 256;
+// The blocks of every program that is loaded have room in the code area.
+const _: () = prove!(MAX_PROGRAM_WORDS <= CODE_ROOM_WORDS as u64);
 
 /// The blocks of a program, from the begin of the code area on.
 pub(crate) fn lay_program(
@@ -17,12 +19,12 @@ pub(crate) fn lay_program(
 ) -> Result<Vec<u16>, NoMemory>
     requires link { HasOneLink program.now }
     requires links { AllHaveOneLink codes.now }
-    requires room { length program.now.words.items + words_in codes.now ≤ 10240 }
+    requires room { length program.now.words.items + words_in codes.now ≤ CODE_ROOM_WORDS }
     requires end { IfSome program.now.end (λ k. k < length program.now.words.items) }
     ensures { IfOk result (λ words. words.items ≡ image_words program.now codes.now) }
 {
-    let begin = CODE_BEGIN + program.words.len() as u16;
-    let finish = CODE_BEGIN + program.end.unwrap_or(0);
+    let begin = CODE_WORD + program.words.len() as u16;
+    let finish = CODE_WORD + program.end.unwrap_or(0);
     let mut words = Vec::new(alloc);
     let first = if codes.is_empty() { finish } else { begin };
     lay(&mut words, program, first)?;
@@ -38,8 +40,8 @@ fn lay_statements(
     finish: u16,
 ) -> Result<(), NoMemory>
     requires links { AllHaveOneLink codes.now }
-    requires room { place + words_in codes.now ≤ 28672 }
-    requires end { finish ≤ 28672 }
+    requires room { place + words_in codes.now ≤ MEMORY_END_WORD }
+    requires end { finish ≤ MEMORY_END_WORD }
     ensures { OnOk result (words.new.items ≡ words.old.items ++ statements_laid place finish codes.now) }
 {
     let Some((code, rest)) = codes.split_first() else {
@@ -53,7 +55,7 @@ fn lay_statements(
 // One block, whose link leads to the word number `target`.
 fn lay(words: &mut Vec<u16>, code: &BlockCode, target: u16) -> Result<(), NoMemory>
     requires link { HasOneLink code.now }
-    requires small { target ≤ 28672 }
+    requires small { target ≤ MEMORY_END_WORD }
     ensures { OnOk result (words.new.items ≡ words.old.items ++ laid_to code.now target) }
 {
     let begin = words.len();

@@ -12,7 +12,7 @@ use dice_base::NoMemory;
 use statement_code::{BlockCode, Statement, emit_program, emit_simple};
 use std::alloc::Global;
 
-/// The words of a program's blocks, to be laid from byte 512 on: the program's block, and those of its statements in
+/// The words of a program's blocks, to be laid from `CODE_BYTE` on: the program's block, and those of its statements in
 /// text order, with NOP at each gate and each link word the byte address of its end.
 pub fn load_words(alloc: Global, statements: &[Statement]) -> Result<Vec<u16>, NoMemory>
     requires { IsProgram statements.now }

@@ -2,7 +2,7 @@
 //! that was compared with SIMH's PDP-11/40.
 
 use dice_base::NoMemory;
-use pdp11_machine::{Machine, StepEnd};
+use pdp11_machine::{MEMORY_BYTES, Machine, StepEnd};
 use std::alloc::Global;
 use std::process::Abort;
 use std::test::Fail;
@@ -63,7 +63,7 @@ fn vector_of(end: StepEnd, word: u16) -> u16 {
 }
 
 fn word_at(machine: &Machine, address: u16) -> u16 {
-    if address % 2 == 0 && address < 57344 {
+    if address % 2 == 0 && address < MEMORY_BYTES {
         machine.peek(address)
     } else {
         0

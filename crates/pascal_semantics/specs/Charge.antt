@@ -1,5 +1,6 @@
 -- How many words of the target's memory the block of a form is given: upper bounds on its code, by its nodes.
 use Rattle.std.specs.Prelude.{ℕ, ◌+◌, List, [], ◌∷◌, Option, Some, None}
+use Rattle.pascal_semantics.specs.declared.charges.TheConstants.{PROGRAM_CHARGE}
 use Rattle.pascal_semantics.specs.declared.form.Operand.{Operand}
 use Rattle.pascal_semantics.specs.declared.form.Operand.TheVariants.{Global, Number}
 use Rattle.pascal_semantics.specs.declared.form.Sum.{Sum}
@@ -35,7 +36,7 @@ charge_of Empty = 8
 
 -- the words of the program's block
 abbrev pub program_charge : ℕ
-program_charge = 32
+program_charge = PROGRAM_CHARGE
 
 -- the words of all statements
 abbrev pub charges_of : List Statement → ℕ

@@ -3,6 +3,7 @@ use Rattle.std.specs.Prelude.{ℕ, List, [], replicate}
 use Rattle.pascal_semantics.specs.declared.form.Operand.{Operand}
 use Rattle.pascal_semantics.specs.declared.form.Sum.{Sum}
 use Rattle.pascal_semantics.specs.declared.form.SimpleForm.{SimpleForm}
+use Rattle.pascal_semantics.specs.declared.limits.TheConstants.{GLOBAL_WORDS}
 
 -- a state is halted before a gate, or in the middle of a statement while one of its activations has frames
 pub data Status : Type 0 where
@@ -36,9 +37,6 @@ pub record State : Type 0 where
   pub globals : List ℕ
   pub output : List ℕ
 
-abbrev pub globals_count : ℕ
-globals_count = 4096
-
 -- a program that was loaded and not started: each variable is zero
 abbrev pub loaded_state : State
-loaded_state = record { status = NotStarted; activations = []; globals = replicate globals_count 0; output = [] }
+loaded_state = record { status = NotStarted; activations = []; globals = replicate GLOBAL_WORDS 0; output = [] }

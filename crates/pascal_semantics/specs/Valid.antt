@@ -7,11 +7,12 @@ use Rattle.pascal_semantics.specs.declared.form.Sum.{Sum}
 use Rattle.pascal_semantics.specs.declared.form.SimpleForm.{SimpleForm}
 use Rattle.pascal_semantics.specs.declared.form.SimpleForm.TheVariants.{Assign, WriteLine, Empty}
 use Rattle.pascal_semantics.specs.declared.form.Statement.{Statement}
+use Rattle.pascal_semantics.specs.declared.limits.TheConstants.{GLOBAL_WORDS, MAX_PROGRAM_WORDS}
 use Rattle.pascal_semantics.specs.Charge.{program_charge, charges_of}
 
 -- variables are global words, numbers and widths are in range
 abbrev pub IsOperand : Operand → Type 0
-IsOperand (Global g) = g < 4096
+IsOperand (Global g) = g < GLOBAL_WORDS
 IsOperand (Number n) = n ≤ 32767
 
 abbrev pub IsSecond : Option Operand → Type 0
@@ -26,7 +27,7 @@ IsWidth None = Unit {0}
 IsWidth (Some w) = (1 ≤ w) × (w ≤ 255)
 
 abbrev pub IsForm : SimpleForm → Type 0
-IsForm (Assign g e) = (g < 4096) × IsSum e
+IsForm (Assign g e) = (g < GLOBAL_WORDS) × IsSum e
 IsForm (WriteLine e w) = IsSum e × IsWidth w
 IsForm Empty = Unit {0}
 
@@ -44,9 +45,9 @@ abbrev pub AllDiffer : List Statement → Type 0
 AllDiffer [] = Unit {0}
 AllDiffer (s ∷ ss) = IsFree s.name ss × AllDiffer ss
 
--- the words of the code area
+-- the most words of code that the blocks of a program take together
 abbrev pub code_room : ℕ
-code_room = 10240
+code_room = MAX_PROGRAM_WORDS
 
 -- a program that can be loaded, with any number of statements, also none
 pub record IsProgram (ss : List Statement) : Type 0 where

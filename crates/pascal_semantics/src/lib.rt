@@ -6,8 +6,10 @@
 
 mod charges;
 mod form;
+mod limits;
 #[cfg(test)]
 mod tests;
 
 pub use charges::{PROGRAM_CHARGE, charge, code_words};
 pub use form::{Operand, SimpleForm, Statement, Sum};
+pub use limits::{GLOBAL_WORDS, MAX_PROGRAM_WORDS};

@@ -5,6 +5,7 @@
 -- also where a bus trap comes after it.
 use Rattle.std.specs.Prelude.{ℕ, ◌+◌, ◌-◌, ◌*◌, ◌/◌, ◌%◌, ◌<◌, Bool, ◌&&◌, nat_lt, nat_le, nat_eq, if◌then◌else◌, Option, Some, None, slice_index}
 use Rattle.pdp11_machine.specs.declared.Place.{Place}
+use Rattle.pdp11_machine.specs.declared.size.TheConstants.{MEMORY_BYTES, REGISTERS}
 use Rattle.pdp11_machine.specs.declared.Place.TheVariants.{Register, Cell}
 use Rattle.pdp11_machine.specs.State.{State, Flags, reg, with_reg, is_place, word_at, with_word}
 
@@ -51,7 +52,7 @@ addressed byte mode r s =
 
 -- the register of a place is one of the eight
 abbrev pub IsRegistered : Place → Type 0
-IsRegistered (Register r) = r < 8
+IsRegistered (Register r) = r < REGISTERS
 IsRegistered (Cell a) = Unit {0}
 
 abbrev pub placed : Bool → ℕ → ℕ → State → State × Option Place
@@ -59,7 +60,7 @@ placed byte mode r s = if nat_eq mode 0 then (s, Some (Register r)) else and_the
 
 -- the byte at an address: the low byte of a word at its even address, the high byte at the odd one
 abbrev pub byte_at : State → ℕ → Option ℕ
-byte_at s a = if nat_lt a 57344 then Some (if nat_eq (a % 2) 0 then slice_index s.memory (a / 2) % 256 else slice_index s.memory (a / 2) / 256) else None
+byte_at s a = if nat_lt a MEMORY_BYTES then Some (if nat_eq (a % 2) 0 then slice_index s.memory (a / 2) % 256 else slice_index s.memory (a / 2) / 256) else None
 
 -- a word of which the byte of this address is replaced
 abbrev pub with_byte : ℕ → ℕ → ℕ → ℕ
@@ -81,7 +82,7 @@ loaded_byte s (Cell a) = byte_at s a
 
 abbrev pub stored_byte : State → Place → ℕ → State × Option Unit
 stored_byte s (Register r) byte = (with_reg s r (reg s r / 256 * 256 + byte % 256), Some tt)
-stored_byte s (Cell a) byte = if nat_lt a 57344 then (with_word s a (with_byte a (slice_index s.memory (a / 2)) byte), Some tt) else (s, None)
+stored_byte s (Cell a) byte = if nat_lt a MEMORY_BYTES then (with_word s a (with_byte a (slice_index s.memory (a / 2)) byte), Some tt) else (s, None)
 
 -- the byte or word at a place
 abbrev pub loaded_by : Bool → State → Place → Option ℕ

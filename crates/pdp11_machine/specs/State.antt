@@ -2,6 +2,7 @@
 -- word of the PDP-11/40 Processor Handbook, chapters 2 and 3.
 use Rattle.std.specs.Prelude.{◌≡◌, ℕ, ◌+◌, ◌*◌, ◌/◌, ◌%◌, ◌<◌, Bool, false, ◌&&◌, nat_lt, nat_eq, if◌then◌else◌, Option, Some, None, List, length, slice_index, slice_set, replicate}
 use Rattle.pdp11_arithmetic.specs.Bits.{bit_of}
+use Rattle.pdp11_machine.specs.declared.size.TheConstants.{MEMORY_BYTES, MEMORY_WORDS, REGISTERS}
 
 pub record Flags : Type 0 where
   pub negative : Bool
@@ -25,7 +26,7 @@ with_reg s r word = record s { registers = slice_set s.registers r word }
 
 -- the address is that of a word of the memory
 abbrev pub is_place : ℕ → Bool
-is_place a = nat_eq (a % 2) 0 && nat_lt a 57344
+is_place a = nat_eq (a % 2) 0 && nat_lt a MEMORY_BYTES
 
 -- the word at an address, or none at a bus trap
 abbrev pub word_at : State → ℕ → Option ℕ
@@ -46,10 +47,15 @@ with_status s word = record s { flags = flags_in word; upper = word / 16 }
 
 -- what is so of every machine
 pub record IsMachine (s : State) : Type 0 where
-  pub memory_length : length s.memory ≡ 28672
-  pub register_count : length s.registers ≡ 8
+  pub memory_length : length s.memory ≡ MEMORY_WORDS
+  pub register_count : length s.registers ≡ REGISTERS
   pub upper_bits : s.upper < 4096
 
 -- zero memory, registers and status
 unfoldable pub zero_machine : State
-zero_machine = record { memory = replicate 28672 0; registers = replicate 8 0; flags = record { negative = false; zero = false; overflow = false; carry = false }; upper = 0 }
+zero_machine = record {
+  memory = replicate MEMORY_WORDS 0;
+  registers = replicate REGISTERS 0;
+  flags = record { negative = false; zero = false; overflow = false; carry = false };
+  upper = 0;
+}

@@ -14,11 +14,14 @@ mod extended;
 mod operands;
 mod reset;
 mod single;
+mod size;
 mod step;
 mod take_trap;
 #[cfg(test)]
 mod tests;
 mod words;
+
+pub use size::{MEMORY_BYTES, MEMORY_WORDS, REGISTERS};
 
 use dice_base::NoMemory;
 use std::alloc::Global;
@@ -42,11 +45,11 @@ enum Place {
     Cell(u16),
 }
 
-/// The machine. Addresses are in bytes, and the memory ends at 57,344.
+/// The machine. Addresses are in bytes, below `MEMORY_BYTES`.
 #[derive(Drop)]
 pub struct Machine {
     memory: Vec<u16>,
-    registers: [u16; 8],
+    registers: [u16; REGISTERS],
     negative: bool,
     zero: bool,
     overflow: bool,
@@ -57,12 +60,13 @@ pub struct Machine {
 impl Model for Machine {
     ghost use Rattle.std.specs.Prelude.{◌≡◌, ◌<◌, length};
     ghost use Rattle.pdp11_machine.specs.State.{State};
+    ghost use Rattle.pdp11_machine.specs.declared.size.TheConstants.{MEMORY_WORDS, REGISTERS};
 
     ghost Value = { State };
 
     ghost view = { λ m. record { memory = m.memory.items; registers = m.registers; flags = record { negative = m.negative; zero = m.zero; overflow = m.overflow; carry = m.carry }; upper = m.upper } };
 
-    ghost invariant = { λ m. (length m.memory.items ≡ 28672) × (length m.registers ≡ 8) × (m.upper < 4096) };
+    ghost invariant = { λ m. (length m.memory.items ≡ MEMORY_WORDS) × (length m.registers ≡ REGISTERS) × (m.upper < 4096) };
 }
 
 impl Machine {
@@ -72,8 +76,8 @@ impl Machine {
         ensures { IfOk result (λ m. m ≡ zero_machine) }
     {
         Ok(Machine {
-            memory: vec![in alloc; 0; 28672]?,
-            registers: [0; 8],
+            memory: vec![in alloc; 0; MEMORY_WORDS as usize]?,
+            registers: [0; REGISTERS],
             negative: false,
             zero: false,
             overflow: false,
@@ -85,7 +89,7 @@ impl Machine {
     /// The word at an even address.
     pub fn peek(&self, place: u16) -> u16
         requires even { place % 2 ≡ 0 }
-        requires inside { place < 57344 }
+        requires inside { place < MEMORY_BYTES }
         ensures word { result ≡ slice_index self.now.memory (place / 2) }
         ensures machine { IsMachine self.now }
     {
@@ -95,7 +99,7 @@ impl Machine {
     /// Writes the word at an even address.
     pub fn poke(&mut self, place: u16, word: u16)
         requires even { place % 2 ≡ 0 }
-        requires inside { place < 57344 }
+        requires inside { place < MEMORY_BYTES }
         ensures { self.new ≡ with_word self.old place word }
     {
         self.memory[(place / 2) as usize] = word;
@@ -103,7 +107,7 @@ impl Machine {
 
     /// R0 to R5, SP by 6 and PC by 7.
     pub fn register(&self, number: u8) -> u16
-        requires { number < 8 }
+        requires { number < REGISTERS }
         ensures word { result ≡ reg self.now number }
         ensures machine { IsMachine self.now }
     {
@@ -112,7 +116,7 @@ impl Machine {
 
     /// Sets a register.
     pub fn set_register(&mut self, number: u8, word: u16)
-        requires { number < 8 }
+        requires { number < REGISTERS }
         ensures { self.new ≡ with_reg self.old number word }
     {
         self.registers[number as usize] = word;

@@ -5,13 +5,13 @@ ghost use Rattle.pdp11_machine.specs.State.{State, reg, with_reg, is_place, word
 ghost use Rattle.pdp11_machine.specs.Operands.{fetched, step_of, incremented, decremented, indexed, behind, addressed, placed, IsRegistered, loaded, stored, byte_at, with_byte, loaded_byte, stored_byte, loaded_by, stored_by};
 ghost use Rattle.pdp11_arithmetic.specs.Words.{whole};
 
-use crate::{Machine, Place};
+use crate::{MEMORY_BYTES, Machine, Place};
 
 impl Machine {
     pub(crate) fn read(&self, address: u16) -> Option<u16>
         ensures { result ≡ word_at self.now address }
     {
-        if address % 2 == 0 && address < 57344 {
+        if address % 2 == 0 && address < MEMORY_BYTES {
             Some(self.memory[(address / 2) as usize])
         } else {
             None
@@ -21,7 +21,7 @@ impl Machine {
     pub(crate) fn write(&mut self, address: u16, word: u16) -> Option<()>
         ensures { (self.new, result) ≡ stored self.old (Place.Cell address) word }
     {
-        if address % 2 == 0 && address < 57344 {
+        if address % 2 == 0 && address < MEMORY_BYTES {
             self.memory[(address / 2) as usize] = word;
             Some(())
         } else {
@@ -138,7 +138,7 @@ impl Machine {
         ensures value { result ≡ byte_at self.now address }
         ensures small { IfSome result (λ byte. byte < 256) }
     {
-        if address < 57344 {
+        if address < MEMORY_BYTES {
             let word = self.memory[(address / 2) as usize];
             Some(if address % 2 == 0 {
                 word % 256
@@ -172,7 +172,7 @@ impl Machine {
                 Some(())
             }
             Place::Cell(address) => {
-                if address < 57344 {
+                if address < MEMORY_BYTES {
                     let word = self.memory[(address / 2) as usize];
                     self.memory[(address / 2) as usize] = merged(address, word, byte);
                     Some(())

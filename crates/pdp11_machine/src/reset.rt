@@ -2,7 +2,7 @@
 ghost use Rattle.std.specs.Prelude.{◌≡◌};
 ghost use Rattle.pdp11_machine.specs.State.{zero_machine};
 
-use crate::Machine;
+use crate::{Machine, REGISTERS};
 
 impl Machine {
     /// Makes memory, registers and status word zero, as they are in a new machine.
@@ -11,7 +11,7 @@ impl Machine {
         ensures { self.new ≡ zero_machine }
     {
         self.memory.fill(0);
-        self.registers = [0; 8];
+        self.registers = [0; REGISTERS];
         self.negative = false;
         self.zero = false;
         self.overflow = false;

@@ -4,7 +4,7 @@ ghost use Rattle.std.specs.Prelude.{◌≡◌, ℕ, ◌+◌, ◌<◌, ◌%◌, I
 ghost use Rattle.pdp11_machine.specs.State.{State, reg, is_place};
 ghost use Rattle.pdp11_machine.specs.TakeTrap.{is_reachable, with_trap_pushed, with_vector, trap_taken};
 
-use crate::Machine;
+use crate::{MEMORY_BYTES, Machine};
 
 impl Machine {
     pub(crate) fn go_to_vector(&mut self, vector: u16) -> bool
@@ -54,5 +54,5 @@ impl Machine {
 fn is_word_address(address: u16) -> bool
     ensures { result ≡ is_place address }
 {
-    address % 2 == 0 && address < 57344
+    address % 2 == 0 && address < MEMORY_BYTES
 }

@@ -5,7 +5,8 @@ use Rattle.std.proofs.lemmas.Bool.Decides.{nat_tests}
 use Rattle.pdp11_machine.specs.State.{State as MachineState}
 use Rattle.console_service.specs.Console.{ConsoleState}
 use Rattle.console_service.specs.Run.{word_here, gate_here}
-use Rattle.console_service.specs.Cpu.{Cpu, state_of, globals_begin}
+use Rattle.console_service.specs.Cpu.{Cpu, state_of}
+use Rattle.console_service.specs.declared.memory_map.TheConstants.{GLOBALS_WORD}
 use Rattle.console_service.proofs.Ops.{half, even_place, next as next_word}
 use Rattle.target_monitor.specs.declared.gates.GoEnd.{GoEnd}
 use Rattle.target_monitor.specs.declared.gates.GoEnd.TheVariants as end
@@ -45,7 +46,7 @@ module _ {Form Path Data : Type 0} (M : Semantics Form Path Data) where
   is_at_gate b other k gate e = absurd (grind (arith, gate))
 
   -- at a gate stands its word
-  pub gate_stands : (P : Program Form) (es : ℕ → Option Block) (marks : ℕ → Bool) (s : Now Path Data) (c : Cpu) → is_gate s.start ≡ true → HasImage M P es marks c.mem → Before M P es s c → (c.pc < globals_begin) × (slice_index c.mem c.pc ≡ gate_word (marks s.name))
+  pub gate_stands : (P : Program Form) (es : ℕ → Option Block) (marks : ℕ → Bool) (s : Now Path Data) (c : Cpu) → is_gate s.start ≡ true → HasImage M P es marks c.mem → Before M P es s c → (c.pc < GLOBALS_WORD) × (slice_index c.mem c.pc ≡ gate_word (marks s.name))
   gate_stands P es marks s c gate image b =
       let l = image.each s.name b.form b.has in
       let same : b.block ≡ l.block = cc (b.entry, l.entry) in

@@ -8,7 +8,8 @@ use Rattle.std.proofs.Math.Dec.{lit<}
 use Rattle.dice_base.specs.declared.link.LinkTo.{LinkTo}
 use Rattle.dice_base.specs.declared.link.LinkTo.TheVariants.{Next}
 use Rattle.dice_base.specs.declared.link.LinkWord.{LinkWord}
-use Rattle.console_service.specs.Cpu.{Cpu, HasAt, globals_begin, stack_begin, memory_end}
+use Rattle.console_service.specs.Cpu.{Cpu, HasAt}
+use Rattle.console_service.specs.declared.memory_map.TheConstants.{GLOBALS_WORD, STACK_WORD, MEMORY_END_WORD}
 use Rattle.console_service.proofs.Compose.{comes_on, comes_within, has_front}
 use Rattle.console_service.proofs.Jumps.{trap_stops, trap_no_gate}
 use Rattle.console_service.specs.declared.block.BlockCode.{BlockCode}
@@ -96,7 +97,7 @@ outcome_plain a (Some b) globals c isa isb h = subst IsPlain (sym (sum-is (opera
 
 -- ---- the frame
 
-frame_stack : (started : Bool) (c : Cpu) → FrameHolds started c → (28659 ≤ c.sp) × (c.sp ≤ memory_end)
+frame_stack : (started : Bool) (c : Cpu) → FrameHolds started c → (28659 ≤ c.sp) × (c.sp ≤ MEMORY_END_WORD)
 frame_stack true c h = (omega (arith, h.stack), omega (arith, h.stack))
 frame_stack false c h = (omega (arith, h), omega (arith, h))
 
@@ -133,7 +134,7 @@ exits f d hs b p q c (Error number) has is laid room plain at r holds (e, t) =
       record { comes = comes_within (length (value_words f)) (16384 * charge_of f) c e (omega arith) t.comes; kept = λ k lt. t.keeps.low k (omega arith); long = t.keeps.long },
       record { below = omega (arith, t.to, r.fits, lens); here = t.trap; stops = trap_stops e number low plain.0 plain.1 t.trap; no_gate = trap_no_gate e number low t.trap },
       (omega (arith, t.from, at), omega (arith, t.to, at, laid.1, fits)),
-      record { globals_are = globals_still stack_begin c.sp d.globals c e (omega arith) t.keeps holds.globals_are; console = ap (λ k. k.output) t.console ∙ holds.console },
+      record { globals_are = globals_still STACK_WORD c.sp d.globals c e (omega arith) t.keeps holds.globals_are; console = ap (λ k. k.output) t.console ∙ holds.console },
     )
 exits f d hs b p q c (Value v) has is laid room plain at r holds (e, u) =
     let fits = words_fit f in
@@ -155,7 +156,7 @@ exits f d hs b p q c (Value v) has is laid room plain at r holds (e, u) =
       },
     )
 
-behind_ready : (f : SimpleForm) (d : Store) (hs : List (Hanging NoCall)) (p g : ℕ) (q : LinkTo → ℕ) (c : Cpu) → HasAt c.mem p (statement_words f g (2 * q Next)) → p + charge_of f ≤ globals_begin → length c.mem ≡ memory_end → Holds d hs c → c.pc ≡ p + 1 → Ready (behind_gate f (2 * q Next)) d.globals 2 c
+behind_ready : (f : SimpleForm) (d : Store) (hs : List (Hanging NoCall)) (p g : ℕ) (q : LinkTo → ℕ) (c : Cpu) → HasAt c.mem p (statement_words f g (2 * q Next)) → p + charge_of f ≤ GLOBALS_WORD → length c.mem ≡ MEMORY_END_WORD → Holds d hs c → c.pc ≡ p + 1 → Ready (behind_gate f (2 * q Next)) d.globals 2 c
 behind_ready f d hs p g q c here below long holds at =
     let stack = frame_stack d.started c holds.frame in
     record {
@@ -182,7 +183,7 @@ nothing_done d hs b p q c laid r holds =
       },
     )
 
-behind_runs : (f : SimpleForm) (d : Store) (hs : List (Hanging NoCall)) (b : Block) (p g : ℕ) (q : LinkTo → ℕ) (c : Cpu) → IsForm f → IsLaid f b → length d.output + 257 ≤ 65536 → HasAt c.mem p (statement_words f g (2 * q Next)) → p + charge_of f ≤ globals_begin → length c.mem ≡ memory_end → Holds d hs c → c.pc ≡ p + 1
+behind_runs : (f : SimpleForm) (d : Store) (hs : List (Hanging NoCall)) (b : Block) (p g : ℕ) (q : LinkTo → ℕ) (c : Cpu) → IsForm f → IsLaid f b → length d.output + 257 ≤ 65536 → HasAt c.mem p (statement_words f g (2 * q Next)) → p + charge_of f ≤ GLOBALS_WORD → length c.mem ≡ MEMORY_END_WORD → Holds d hs c → c.pc ≡ p + 1
     → Exits simple (most (StatementBlock f) (At Gate)) (StatementBlock f) b p q hs c (exit_by f d (outcome_of f d))
 behind_runs f d hs b p g q c is laid room here below long holds at = by f is laid (behind_ready f d hs p g q c here below long holds at)
   where

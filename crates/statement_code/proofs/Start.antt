@@ -9,7 +9,8 @@ use Rattle.pdp11_machine.specs.Words.{flags_of}
 use Rattle.dice_base.specs.declared.link.LinkTo.{LinkTo}
 use Rattle.dice_base.specs.declared.link.LinkTo.TheVariants.{Child}
 use Rattle.dice_base.specs.declared.link.LinkWord.{LinkWord}
-use Rattle.console_service.specs.Cpu.{Cpu, HasAt, Keeps, Comes, globals_begin, stack_begin, memory_end}
+use Rattle.console_service.specs.Cpu.{Cpu, HasAt, Keeps, Comes}
+use Rattle.console_service.specs.declared.memory_map.TheConstants.{GLOBALS_WORD, STACK_WORD, MEMORY_END_WORD}
 use Rattle.console_service.proofs.Ops.{Op, PushNumber, PushZero, after}
 use Rattle.console_service.proofs.Compose.{one_step, comes_on, comes_within, no_step, has_front, has_back, has_still, line_runs, line_words, after_line, LineFits}
 use Rattle.console_service.proofs.Jumps.{end_stops, end_no_gate, frame_step}
@@ -51,7 +52,7 @@ zero_more m j top lt above k lo hi = by (cases_eq k j)
     by (inr other) = get_or-set_other m j k 0 0 other ∙ above k (omega (arith, other, lo)) hi
 
 -- words below the stack stay
-has_low : (c d : Cpu) (p : ℕ) (ws : List ℕ) → ((k : ℕ) → k < stack_begin → slice_index d.mem k ≡ slice_index c.mem k) → p + length ws ≤ globals_begin → HasAt c.mem p ws → HasAt d.mem p ws
+has_low : (c d : Cpu) (p : ℕ) (ws : List ℕ) → ((k : ℕ) → k < STACK_WORD → slice_index d.mem k ≡ slice_index c.mem k) → p + length ws ≤ GLOBALS_WORD → HasAt c.mem p ws → HasAt d.mem p ws
 has_low c d p ws same le h = has_kept c d p ws (λ k lt. same k (omega arith)) le h
 
 -- what a line comes to
@@ -60,7 +61,7 @@ record Lined (n lo hi : ℕ) (os : List Op) (c : Cpu) : Type 0 where
   keeps : Keeps lo hi c (after_line os c)
   place : (after_line os c).pc ≡ c.pc + length (line_words os)
 
-lined : (lo hi : ℕ) (os : List Op) (c : Cpu) → globals_begin ≤ lo → hi ≤ memory_end → c.pc + length (line_words os) ≤ globals_begin → HasAt c.mem c.pc (line_words os) → LineFits lo hi os c → Lined (length os) lo hi os c
+lined : (lo hi : ℕ) (os : List Op) (c : Cpu) → GLOBALS_WORD ≤ lo → hi ≤ MEMORY_END_WORD → c.pc + length (line_words os) ≤ GLOBALS_WORD → HasAt c.mem c.pc (line_words os) → LineFits lo hi os c → Lined (length os) lo hi os c
 lined lo hi os c g t p has fit = let l = line_runs lo hi os c g t p has fit in record { comes = l.0; keeps = l.1; place = l.2 }
 
 -- the nine zeros below the sum of charges
@@ -69,7 +70,7 @@ zeros_words = line_words zeros_line
 
 record Zeroed (c d : Cpu) : Type 0 where
   lines : Comes 9 c d
-  keeps : Keeps stack_begin 28668 c d
+  keeps : Keeps STACK_WORD 28668 c d
   console : d.console ≡ c.console
   place : d.pc ≡ c.pc + 9
   stack : d.sp ≡ 28659
@@ -79,7 +80,7 @@ record Zeroed (c d : Cpu) : Type 0 where
 record ZeroFrom (j : ℕ) (c d : Cpu) : Type 0 where
   place : d.pc + j ≡ c.pc + 28668
   stack : d.sp ≡ j
-  long : length d.mem ≡ memory_end
+  long : length d.mem ≡ MEMORY_END_WORD
   zeros : (k : ℕ) → j ≤ k → k < 28668 → slice_index d.mem k ≡ 0
 
 zero_on : (j : ℕ) (c d : Cpu) → j < 28668 → ZeroFrom (j + 1) c d → ZeroFrom j c (after PushZero d)
@@ -92,9 +93,9 @@ zero_on j c d lt z =
       zeros = λ k lo hi. ap (λ i. slice_index (slice_set d.mem i 0) k) at ∙ zero_more d.mem j 28668 (omega (arith, z.long, lt)) z.zeros k lo hi;
     }
 
-zeros_made : (c : Cpu) → c.sp ≡ 28668 → length c.mem ≡ memory_end → c.pc + 9 ≤ globals_begin → HasAt c.mem c.pc zeros_words → (d : Cpu) × Zeroed c d
+zeros_made : (c : Cpu) → c.sp ≡ 28668 → length c.mem ≡ MEMORY_END_WORD → c.pc + 9 ≤ GLOBALS_WORD → HasAt c.mem c.pc zeros_words → (d : Cpu) × Zeroed c d
 zeros_made c sp long fits has =
-    let l = lined stack_begin 28668 zeros_line c (omega arith) (omega arith) (omega (arith, fits)) has ((omega (arith, sp), omega (arith, sp)), ((omega (arith, sp), omega (arith, sp)), ((omega (arith, sp), omega (arith, sp)), ((omega (arith, sp), omega (arith, sp)), ((omega (arith, sp), omega (arith, sp)), ((omega (arith, sp), omega (arith, sp)), ((omega (arith, sp), omega (arith, sp)), ((omega (arith, sp), omega (arith, sp)), ((omega (arith, sp), omega (arith, sp)), tt))))))))) in
+    let l = lined STACK_WORD 28668 zeros_line c (omega arith) (omega arith) (omega (arith, fits)) has ((omega (arith, sp), omega (arith, sp)), ((omega (arith, sp), omega (arith, sp)), ((omega (arith, sp), omega (arith, sp)), ((omega (arith, sp), omega (arith, sp)), ((omega (arith, sp), omega (arith, sp)), ((omega (arith, sp), omega (arith, sp)), ((omega (arith, sp), omega (arith, sp)), ((omega (arith, sp), omega (arith, sp)), ((omega (arith, sp), omega (arith, sp)), tt))))))))) in
     let z0 : ZeroFrom 28668 c c = record { place = omega arith; stack = sp; long = long; zeros = λ k lo hi. absurd (omega (arith, lo, hi)) } in
     let z = zero_on 28659 c _ (omega arith) (zero_on 28660 c _ (omega arith) (zero_on 28661 c _ (omega arith) (zero_on 28662 c _ (omega arith) (zero_on 28663 c _ (omega arith) (zero_on 28664 c _ (omega arith) (zero_on 28665 c _ (omega arith) (zero_on 28666 c _ (omega arith) (zero_on 28667 c c (omega arith) z0)))))))) in
     (after_line zeros_line c, record { lines = l.comes; keeps = l.keeps; console = refl; place = l.place; stack = z.stack; zeros = z.zeros })
@@ -106,7 +107,7 @@ middle_words = 4485 ∷ (2598 ∷ (5606 ∷ (45 ∷ [])))
 record Linked (c d : Cpu) : Type 0 where
   lines : Comes 3 c d
   frame : d.r5 ≡ 57340
-  low : (k : ℕ) → k < stack_begin → slice_index d.mem k ≡ slice_index c.mem k
+  low : (k : ℕ) → k < STACK_WORD → slice_index d.mem k ≡ slice_index c.mem k
   high : (k : ℕ) → 28670 ≤ k → slice_index d.mem k ≡ slice_index c.mem k
   long : length d.mem ≡ length c.mem
   console : d.console ≡ c.console
@@ -115,15 +116,15 @@ record Linked (c d : Cpu) : Type 0 where
   static_link : slice_index d.mem 28669 ≡ 0
   charges : slice_index d.mem 28668 ≡ 45
 
-middle_made : (c : Cpu) → c.sp ≡ 28670 → length c.mem ≡ memory_end → c.pc + 4 ≤ globals_begin → HasAt c.mem c.pc middle_words → (d : Cpu) × Linked c d
+middle_made : (c : Cpu) → c.sp ≡ 28670 → length c.mem ≡ MEMORY_END_WORD → c.pc + 4 ≤ GLOBALS_WORD → HasAt c.mem c.pc middle_words → (d : Cpu) × Linked c d
 middle_made c sp long fits has =
     let b : Cpu = record c { r5 = 2 * c.sp; pc = c.pc + 1; flags = flags_of (2 * c.sp) false c.flags.carry } in
     let s = one_step c b (frame_step c (omega (arith, fits)) has.0) in
-    let l = lined stack_begin 28670 second_line b (omega arith) (omega arith) (omega (arith, fits)) has.1 ((omega (arith, sp), omega (arith, sp)), ((omega (arith, sp), omega (arith, sp)), tt)) in
+    let l = lined STACK_WORD 28670 second_line b (omega arith) (omega arith) (omega (arith, fits)) has.1 ((omega (arith, sp), omega (arith, sp)), ((omega (arith, sp), omega (arith, sp)), tt)) in
     let one : c.sp - 1 ≡ 28669 = omega (arith, sp) in
     let two : c.sp - 1 - 1 ≡ 28668 = omega (arith, sp) in
     let m1 = slice_set c.mem 28669 0 in
-    let long1 : length m1 ≡ memory_end = simp length-set long in
+    let long1 : length m1 ≡ MEMORY_END_WORD = simp length-set long in
     let written : slice_set (slice_set c.mem (c.sp - 1) 0) (c.sp - 1 - 1) 45 ≡ slice_set m1 28668 45 = ap (λ i. slice_set (slice_set c.mem i 0) (c.sp - 1 - 1) 45) one ∙ ap (λ i. slice_set m1 i 45) two in
     let ne : Differ 28669 28668 = apart 28668 in (
       after_line second_line b,
@@ -144,25 +145,25 @@ middle_made c sp long fits has =
 -- the frame is made, and the machine stands behind it
 record Framed (c d : Cpu) : Type 0 where
   lines : Comes 14 c d
-  kept : (k : ℕ) → k < stack_begin → slice_index d.mem k ≡ slice_index c.mem k
+  kept : (k : ℕ) → k < STACK_WORD → slice_index d.mem k ≡ slice_index c.mem k
   long : length d.mem ≡ length c.mem
   console : d.console ≡ c.console
   place : d.pc ≡ c.pc + 15
   frame : HasFrame d
 
-frame_made : (c : Cpu) → c.sp ≡ 28672 → length c.mem ≡ memory_end → c.pc + 15 ≤ globals_begin → HasAt c.mem c.pc frame_words → (d : Cpu) × Framed c d
+frame_made : (c : Cpu) → c.sp ≡ 28672 → length c.mem ≡ MEMORY_END_WORD → c.pc + 15 ≤ GLOBALS_WORD → HasAt c.mem c.pc frame_words → (d : Cpu) × Framed c d
 frame_made c sp long fits has =
     let ca = after_line first_line c in
-    let la = lined stack_begin 28672 first_line c (omega arith) (omega arith) (omega (arith, fits)) (has.0, (has.1.0, tt)) ((omega (arith, sp), omega (arith, sp)), ((omega (arith, sp), omega (arith, sp)), tt)) in
-    let hb = has_still stack_begin 28672 c ca (c.pc + 1 + 1) (middle_words ++ zeros_words) la.keeps (omega (arith, fits)) has.1.1 in
-    let long_a : length ca.mem ≡ memory_end = la.keeps.long ∙ long in
+    let la = lined STACK_WORD 28672 first_line c (omega arith) (omega arith) (omega (arith, fits)) (has.0, (has.1.0, tt)) ((omega (arith, sp), omega (arith, sp)), ((omega (arith, sp), omega (arith, sp)), tt)) in
+    let hb = has_still STACK_WORD 28672 c ca (c.pc + 1 + 1) (middle_words ++ zeros_words) la.keeps (omega (arith, fits)) has.1.1 in
+    let long_a : length ca.mem ≡ MEMORY_END_WORD = la.keeps.long ∙ long in
     let (cb, lb) = middle_made ca (omega (arith, sp)) long_a (omega (arith, fits)) (has_front ca.mem ca.pc middle_words zeros_words hb) in
     let hz = has_low ca cb (ca.pc + 4) zeros_words lb.low (omega (arith, fits)) (has_back ca.mem ca.pc middle_words zeros_words hb) in
     let (cd, ld) = zeros_made cb lb.stack (lb.long ∙ long_a) (omega (arith, fits, lb.place)) (subst (λ k. HasAt cb.mem k zeros_words) (sym lb.place) hz) in
     let one : c.sp - 1 ≡ 28671 = omega (arith, sp) in
     let two : c.sp - 1 - 1 ≡ 28670 = omega (arith, sp) in
     let m1 = slice_set c.mem 28671 0 in
-    let long1 : length m1 ≡ memory_end = simp length-set long in
+    let long1 : length m1 ≡ MEMORY_END_WORD = simp length-set long in
     let written : slice_set (slice_set c.mem (c.sp - 1) 0) (c.sp - 1 - 1) 0 ≡ slice_set m1 28670 0 = ap (λ i. slice_set (slice_set c.mem i 0) (c.sp - 1 - 1) 0) one ∙ ap (λ i. slice_set m1 i 0) two in
     let ne : Differ 28671 28670 = apart 28670 in (
       cd,
@@ -189,13 +190,13 @@ frame_made c sp long fits has =
 abbrev program_links : List LinkWord
 program_links = record { offset = 16; to = Child 0 } ∷ []
 
-globals_kept : (globals : List ℕ) (c d : Cpu) → ((k : ℕ) → k < stack_begin → slice_index d.mem k ≡ slice_index c.mem k) → HasGlobals globals c → HasGlobals globals d
-globals_kept globals c d same h = record { count = h.count; small = h.small; each = λ k lt. same (globals_begin + k) (omega arith) ∙ h.each k lt }
+globals_kept : (globals : List ℕ) (c d : Cpu) → ((k : ℕ) → k < STACK_WORD → slice_index d.mem k ≡ slice_index c.mem k) → HasGlobals globals c → HasGlobals globals d
+globals_kept globals c d same h = record { count = h.count; small = h.small; each = λ k lt. same (GLOBALS_WORD + k) (omega arith) ∙ h.each k lt }
 
 laid_program : (g : ℕ) (q : LinkTo → ℕ) → lay g q None program_block program_links ≡ program_words (2 * q (Child 0)) ++ filler 32 (program_words 0)
 laid_program g q = refl
 
-begin_runs : (b : Block) (d : Store) (hs : List (Hanging NoCall)) (p : ℕ) (q : LinkTo → ℕ) (c : Cpu) → b.links ≡ record { at = 16; to = Child 0 } ∷ [] → d.started ≡ false → HasAt c.mem p (program_words (2 * q (Child 0))) → p + 32 ≤ globals_begin → length c.mem ≡ memory_end → Holds d hs c → c.pc ≡ p
+begin_runs : (b : Block) (d : Store) (hs : List (Hanging NoCall)) (p : ℕ) (q : LinkTo → ℕ) (c : Cpu) → b.links ≡ record { at = 16; to = Child 0 } ∷ [] → d.started ≡ false → HasAt c.mem p (program_words (2 * q (Child 0))) → p + 32 ≤ GLOBALS_WORD → length c.mem ≡ MEMORY_END_WORD → Holds d hs c → c.pc ≡ p
     → Exits simple (most ProgramBlock (At First)) ProgramBlock b p q hs c (Out (Child 0) (record d { started = true }))
 begin_runs b d hs p q c link fresh has below long holds at =
     let here : HasAt c.mem c.pc (program_words (2 * q (Child 0))) = subst (λ k. HasAt c.mem k (program_words (2 * q (Child 0)))) (sym at) has in
@@ -209,10 +210,10 @@ begin_runs b d hs p q c link fresh has below long holds at =
       record { comes = comes_within 15 (16384 * 32) c z (omega arith) (comes_on 14 1 c e z f.lines (jump_end e (q (Child 0)) (omega (arith, below, at, f.place)) hj)); kept = λ k lt. f.kept k (omega arith); long = f.long },
       subst (λ ls. HasLink ls (Child 0)) (sym link) (inl refl),
       refl,
-      record { globals_are = record { count = holds.globals_are.count; small = holds.globals_are.small; each = λ k lt. f.kept (globals_begin + k) (omega arith) ∙ holds.globals_are.each k lt }; frame = record { frame = f.frame.frame; stack = f.frame.stack; back = f.frame.back; caller = f.frame.caller; static_link = f.frame.static_link; charges = f.frame.charges; zeros = f.frame.zeros }; console = ap (λ k. k.output) f.console ∙ holds.console },
+      record { globals_are = record { count = holds.globals_are.count; small = holds.globals_are.small; each = λ k lt. f.kept (GLOBALS_WORD + k) (omega arith) ∙ holds.globals_are.each k lt }; frame = record { frame = f.frame.frame; stack = f.frame.stack; back = f.frame.back; caller = f.frame.caller; static_link = f.frame.static_link; charges = f.frame.charges; zeros = f.frame.zeros }; console = ap (λ k. k.output) f.console ∙ holds.console },
     )
 
-end_runs : (b : Block) (d : Store) (hs : List (Hanging NoCall)) (p : ℕ) (q : LinkTo → ℕ) (c : Cpu) → length b.words ≡ 32 → HasAt c.mem p (program_words (2 * q (Child 0))) → p + 32 ≤ globals_begin → Holds d hs c → c.pc ≡ p + 17
+end_runs : (b : Block) (d : Store) (hs : List (Hanging NoCall)) (p : ℕ) (q : LinkTo → ℕ) (c : Cpu) → length b.words ≡ 32 → HasAt c.mem p (program_words (2 * q (Child 0))) → p + 32 ≤ GLOBALS_WORD → Holds d hs c → c.pc ≡ p + 17
     → Exits simple (most ProgramBlock (At End)) ProgramBlock b p q hs c (Over d)
 end_runs b d hs p q c words has below holds at =
     let low : c.pc < 28672 = omega (arith, at, below) in

@@ -1,8 +1,9 @@
 -- What the blocks of simple programs do, and when a machine stands for their variables, their frame and their output.
-use Rattle.std.specs.Prelude.{◌≡◌, ℕ, ◌+◌, ◌*◌, ◌<◌, ◌≤◌, Bool, true, false, List, [], ◌∷◌, ◌++◌, length, slice_index, slice_set}
+use Rattle.std.specs.Prelude.{◌≡◌, ℕ, ◌+◌, ◌-◌, ◌*◌, ◌<◌, ◌≤◌, Bool, true, false, List, [], ◌∷◌, ◌++◌, length, slice_index, slice_set}
 use Rattle.dice_base.specs.declared.link.LinkTo.TheVariants.{Next, Child}
-use Rattle.console_service.specs.Console.{output_room}
-use Rattle.console_service.specs.Cpu.{Cpu, memory_end}
+use Rattle.console_service.specs.declared.memory_map.TheConstants.{CONSOLE_ROOM_BYTES, MEMORY_END_BYTE, MEMORY_END_WORD}
+use Rattle.statement_code.specs.declared.emit.TheConstants.{STACK_CHARGE_WORDS}
+use Rattle.console_service.specs.Cpu.{Cpu}
 use Rattle.console_service.specs.Block.{First}
 use Rattle.console_service.specs.Semantics.{Begin, At, Exit, Out, Over, Fails, Hanging, Semantics}
 use Rattle.pascal_semantics.specs.declared.form.SimpleForm.{SimpleForm}
@@ -52,19 +53,20 @@ does (StatementBlock f) s d = exit_by f d (outcome_of f d)
 does ProgramBlock (At First) d = Out (Child 0) (record d { started = true })
 does ProgramBlock other d = Over d
 
--- the program's frame (words from R5): return address 0, caller's R5 0, static link 0, 45 words of stack, and nine zeros
+-- the program's frame, the topmost words of the stack: return address, caller's R5, where R5 points, static link, the
+-- sum of the stack charges, and nine words for what a statement holds, which are zero while none holds anything
 pub record HasFrame (c : Cpu) : Type 0 where
-  pub frame : c.r5 ≡ 57340
-  pub stack : c.sp ≡ 28659
-  pub back : slice_index c.mem 28671 ≡ 0
-  pub caller : slice_index c.mem 28670 ≡ 0
-  pub static_link : slice_index c.mem 28669 ≡ 0
-  pub charges : slice_index c.mem 28668 ≡ 45
-  pub zeros : (k : ℕ) → 28659 ≤ k → k < 28668 → slice_index c.mem k ≡ 0
+  pub frame : c.r5 ≡ MEMORY_END_BYTE - 4
+  pub stack : c.sp ≡ MEMORY_END_WORD - 13
+  pub back : slice_index c.mem (MEMORY_END_WORD - 1) ≡ 0
+  pub caller : slice_index c.mem (MEMORY_END_WORD - 2) ≡ 0
+  pub static_link : slice_index c.mem (MEMORY_END_WORD - 3) ≡ 0
+  pub charges : slice_index c.mem (MEMORY_END_WORD - 4) ≡ STACK_CHARGE_WORDS
+  pub zeros : (k : ℕ) → MEMORY_END_WORD - 13 ≤ k → k < MEMORY_END_WORD - 4 → slice_index c.mem k ≡ 0
 
 abbrev pub FrameHolds : Bool → Cpu → Type 0
 FrameHolds true c = HasFrame c
-FrameHolds false c = c.sp ≡ memory_end
+FrameHolds false c = c.sp ≡ MEMORY_END_WORD
 
 -- variables, frame and output are those of the store
 pub record Holds (d : Store) (hs : List (Hanging NoCall)) (c : Cpu) : Type 0 where
@@ -83,7 +85,7 @@ line_room = 257
 
 -- at a gate the output has room for a line; the program's frame is made once
 abbrev pub IsGood : BlockForm → Begin NoCall → Store → Type 0
-IsGood (StatementBlock f) s d = length d.output + line_room ≤ output_room
+IsGood (StatementBlock f) s d = length d.output + line_room ≤ CONSOLE_ROOM_BYTES
 IsGood ProgramBlock (At First) d = d.started ≡ false
 IsGood ProgramBlock other d = Unit {0}
 

@@ -5,7 +5,7 @@ ghost use Rattle.console_service.specs.Run.{is_gate_word};
 ghost use Rattle.target_monitor.specs.Go.{end_of, is_break_word, to_gate, on_the_way, gone};
 
 use console_service::{Console, Stop, execute};
-use pdp11_machine::Machine;
+use pdp11_machine::{MEMORY_BYTES, Machine};
 
 /// How a run ended.
 #[derive(Clone, Copy, PartialEq, Eq, Debug)]
@@ -108,7 +108,7 @@ fn word_at_pc(machine: &Machine) -> Option<u16>
     ensures { result ≡ word_at machine.now (reg machine.now 7) }
 {
     let place = machine.register(7);
-    if place % 2 == 0 && place < 57344 {
+    if place % 2 == 0 && place < MEMORY_BYTES {
         Some(machine.peek(place))
     } else {
         None
