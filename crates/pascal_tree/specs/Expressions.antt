@@ -1,6 +1,6 @@
 -- The grammar of expressions (ISO 7185:1990, 6.7.1) and variable accesses (6.5.1), without strings, sets, `nil` and
 -- functions.
-use Rattle.std.specs.Prelude.{ℕ, zero, suc, Bool, true, false, List, [], ◌∷◌, Option, Some, None}
+use Rattle.std.specs.Prelude.{ℕ, zero, suc, Bool, true, false, List, [], ◌∷◌, Option}
 use Rattle.pascal_tree.specs.declared.expr.Prefix.{Prefix}
 use Rattle.pascal_tree.specs.declared.expr.Prefix.TheVariants as prefix
 use Rattle.pascal_tree.specs.declared.expr.AddOp.{AddOp}

@@ -1,6 +1,5 @@
 -- The grammar of programs (ISO 7185:1990, 6.2.1 and 6.10), without program parameters, and with variables alone.
 use Rattle.std.specs.Prelude.{ℕ, List, [], ◌∷◌, None}
-use Rattle.pascal_tree.specs.declared.typing.TypeText.{TypeText}
 use Rattle.pascal_tree.specs.declared.typing.TypeText.TheVariants.{Named}
 use Rattle.pascal_tree.specs.declared.decl.Decl.{Decl}
 use Rattle.pascal_tree.specs.declared.decl.DeclKind.TheVariants.{VarDecl}

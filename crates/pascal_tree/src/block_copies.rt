@@ -1,4 +1,6 @@
 //! Exact copies of blocks, routines and programs.
+//!
+//! Lists are copied before large values, so that no step that may fail has a large value to let go of.
 ghost use Rattle.std.specs.Prelude.{◌≡◌, IfOk};
 ghost use Rattle.pascal_tree.specs.declared.decl.Block.{out-Block};
 

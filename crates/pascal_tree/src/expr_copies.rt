@@ -1,4 +1,6 @@
 //! Exact copies of expressions.
+//!
+//! Lists are copied before large values, so that no step that may fail has a large value to let go of.
 ghost use Rattle.std.specs.Prelude.{◌≡◌, IfOk};
 
 use crate::{

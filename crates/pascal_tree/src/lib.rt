@@ -1,7 +1,8 @@
 //! The tree of a Pascal program and its grammar (ISO 7185:1990, clause 6), and exact copies of trees.
 //!
-//! The grammar stands in `specs/`, one line for each alternative that is built: `Expressions`, `Statements`,
-//! `Programs`.
+//! In `specs/`: the grammar, one definition for each production that is built (`Expressions`, `Statements`, `Programs`);
+//! the tokens of a tree (`ExprTokens`, `DeclTokens`); the names of its items (`Names`, `Naming`), their places (`Paths`),
+//! and their own texts (`Rows`).
 #![tactic(auto)]
 
 mod block_copies;

@@ -1,4 +1,4 @@
-//! The names of the items of a program: they are given in the order of the text, and counted.
+//! The names of the items of a program: given in the order of the text, and counted.
 #![tactic(auto)]
 
 mod counting;

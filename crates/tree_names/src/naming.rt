@@ -1,4 +1,6 @@
 //! Names in text order.
+//!
+//! Lists are copied before large values, so that no step that may fail has a large value to let go of.
 ghost use Rattle.std.specs.Prelude.{◌≡◌, ◌+◌, IfOk};
 ghost use Rattle.pascal_tree.specs.Naming as spec;
 ghost use Rattle.pascal_tree.specs.Names.{Counts, names_within, program_names, stmt_renaming};

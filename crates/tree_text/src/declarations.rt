@@ -1,5 +1,6 @@
 //! Constants, types, declarations and headings as tokens.
 ghost use Rattle.std.specs.Prelude.{◌≡◌, ◌++◌, ◌∷◌, [], map, OnOk};
+ghost use Rattle.dice_base.specs.Symbols.{semicolon_sign};
 ghost use Rattle.pascal_tree.specs.Joined.{join};
 ghost use Rattle.pascal_tree.specs.ExprTokens.{comma_list, in_brackets, in_parens};
 ghost use Rattle.pascal_tree.specs.DeclTokens as spec;
@@ -153,7 +154,7 @@ fn push_fields(
     out: &mut Vec<TokenKind>,
 ) -> Result<(), NoMemory>
     ensures { OnOk result (out.new.items
-        ≡ out.old.items ++ join (TokenKind.Sign signs::SEMICOLON ∷ []) (map spec.field_tokens fields.now)) }
+        ≡ out.old.items ++ join (semicolon_sign ∷ []) (map spec.field_tokens fields.now)) }
 {
     let mut first = true;
     for field in fields {
@@ -239,7 +240,7 @@ fn push_sections(
     out: &mut Vec<TokenKind>,
 ) -> Result<(), NoMemory>
     ensures { OnOk result (out.new.items
-        ≡ out.old.items ++ join (TokenKind.Sign signs::SEMICOLON ∷ []) (map spec.section_tokens sections.now)) }
+        ≡ out.old.items ++ join (semicolon_sign ∷ []) (map spec.section_tokens sections.now)) }
 {
     let mut first = true;
     for section in sections {
@@ -256,7 +257,7 @@ fn push_params(
     out: &mut Vec<TokenKind>,
 ) -> Result<(), NoMemory>
     ensures { OnOk result (out.new.items
-        ≡ out.old.items ++ in_parens (TokenKind.Sign signs::SEMICOLON) (map spec.section_tokens sections.now)) }
+        ≡ out.old.items ++ in_parens semicolon_sign (map spec.section_tokens sections.now)) }
 {
     if sections.is_empty() {
         return Ok(());
