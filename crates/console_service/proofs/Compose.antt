@@ -3,25 +3,25 @@ use Rattle.std.proofs.Common.{◌≡◌, ◌≢◌, ℕ, zero, suc, ◌+◌, ◌
 use Rattle.std.specs.Prelude.{slice_index, slice_set, option_and_then}
 use Rattle.std.proofs.Math.ListN.{length-set}
 use Rattle.std.proofs.lemmas.List.{get_or-set_other}
-use Rattle.console_service.specs.Run.{Whole, quiet, runs}
+use Rattle.console_service.specs.Run.{MachineAndConsole, quiet_step, quiet_steps}
 use Rattle.console_service.specs.Cpu.{Cpu, state_of, HasAt, Keeps, Comes}
 use Rattle.console_service.specs.declared.memory_map.TheConstants.{GLOBALS_WORD, MEMORY_END_WORD}
 use Rattle.console_service.proofs.Ops.{Op, PushNumber, PushWord, PopWord, AddTop, CompareTop, PopR0, PopR1, StoreR0, SetR1, PushZero, WriteInteger, WriteEnd, words_of, after, Fits, op_step}
 
-runs_from : (m n : ℕ) (o : Option (Whole)) (t : Whole) → option_and_then (runs m) o ≡ Some t → ((u : Whole) → runs m u ≡ Some t → runs (m + n) u ≡ runs n t) → option_and_then (runs (m + n)) o ≡ runs n t
+runs_from : (m n : ℕ) (o : Option (MachineAndConsole)) (t : MachineAndConsole) → option_and_then (quiet_steps m) o ≡ Some t → ((u : MachineAndConsole) → quiet_steps m u ≡ Some t → quiet_steps (m + n) u ≡ quiet_steps n t) → option_and_then (quiet_steps (m + n)) o ≡ quiet_steps n t
 runs_from m n None t e next = cc
 runs_from m n (Some u) t e next = next u e
 
-runs_on : (m n : ℕ) (s t : Whole) → runs m s ≡ Some t → runs (m + n) s ≡ runs n t
-runs_on zero n s t e = rw zero-add (let same : s ≡ t = cc in ap (runs n) same)
+runs_on : (m n : ℕ) (s t : MachineAndConsole) → quiet_steps m s ≡ Some t → quiet_steps (m + n) s ≡ quiet_steps n t
+runs_on zero n s t e = rw zero-add (let same : s ≡ t = cc in ap (quiet_steps n) same)
 runs_on (suc m) n s t e =
     let plus : suc m + n ≡ suc (m + n) = omega arith in
-    ap (λ k. runs k s) plus ∙ runs_from m n (quiet s) t e (λ u f. runs_on m n u t f)
+    ap (λ k. quiet_steps k s) plus ∙ runs_from m n (quiet_step s) t e (λ u f. runs_on m n u t f)
 
 pub no_step : (c : Cpu) → Comes 0 c c
 no_step c = record { count = 0; few = omega arith; run = refl }
 
-pub one_step : (c d : Cpu) → quiet (state_of c) ≡ Some (state_of d) → Comes 1 c d
+pub one_step : (c d : Cpu) → quiet_step (state_of c) ≡ Some (state_of d) → Comes 1 c d
 one_step c d e = record { count = 1; few = omega arith; run = ap (option_and_then (λ s. Some s)) e }
 
 pub comes_on : (m n : ℕ) (c d e : Cpu) → Comes m c d → Comes n d e → Comes (m + n) c e

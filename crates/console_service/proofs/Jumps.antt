@@ -6,7 +6,7 @@ use Rattle.std.specs.Prelude.{slice_index, nat_eq}
 use Rattle.pdp11_machine.specs.Words.{flags_of}
 use Rattle.pdp11_machine.specs.Step.{machine_step}
 use Rattle.pdp11_machine.specs.declared.StepEnd.TheVariants.{Went}
-use Rattle.console_service.specs.Run.{quiet, gate_here, instruction, Stops}
+use Rattle.console_service.specs.Run.{quiet_step, gate_here, instruction, Stops}
 use Rattle.console_service.specs.declared.instruction.Stop.TheVariants.{Ended, Error}
 use Rattle.console_service.specs.Cpu.{Cpu, state_of}
 use Rattle.console_service.proofs.Ops.{half, even_place, next}
@@ -21,25 +21,25 @@ on_6 : (q : ℕ) → q + 3 < 28672 → (2 * q + 6 + 0) % 65536 ≡ 2 * (q + 3)
 on_6 q h = omega arith
 
 -- BVS over three words
-pub bvs_taken : (c : Cpu) → c.pc + 4 < 28672 → slice_index c.mem c.pc ≡ 34051 → c.flags.overflow ≡ true → quiet (state_of c) ≡ Some (state_of (record c { pc = c.pc + 1 + 3 }))
+pub bvs_taken : (c : Cpu) → c.pc + 4 < 28672 → slice_index c.mem c.pc ≡ 34051 → c.flags.overflow ≡ true → quiet_step (state_of c) ≡ Some (state_of (record c { pc = c.pc + 1 + 3 }))
 bvs_taken c hp w v =
     let h : c.pc < 28672 = omega arith in let k : c.pc + 1 + 3 < 28672 = omega arith in
     simp (half, w, v, even_place, next, on_6)
 
-pub bvs_not : (c : Cpu) → c.pc + 4 < 28672 → slice_index c.mem c.pc ≡ 34051 → c.flags.overflow ≡ false → quiet (state_of c) ≡ Some (state_of (record c { pc = c.pc + 1 }))
+pub bvs_not : (c : Cpu) → c.pc + 4 < 28672 → slice_index c.mem c.pc ≡ 34051 → c.flags.overflow ≡ false → quiet_step (state_of c) ≡ Some (state_of (record c { pc = c.pc + 1 }))
 bvs_not c hp w v = let h : c.pc < 28672 = omega arith in simp (half, w, v, even_place, next)
 
 -- BNE over one word
-pub bne_taken : (c : Cpu) → c.pc + 2 < 28672 → slice_index c.mem c.pc ≡ 513 → c.flags.zero ≡ false → quiet (state_of c) ≡ Some (state_of (record c { pc = c.pc + 1 + 1 }))
+pub bne_taken : (c : Cpu) → c.pc + 2 < 28672 → slice_index c.mem c.pc ≡ 513 → c.flags.zero ≡ false → quiet_step (state_of c) ≡ Some (state_of (record c { pc = c.pc + 1 + 1 }))
 bne_taken c hp w v =
     let h : c.pc < 28672 = omega arith in let k : c.pc + 1 + 1 < 28672 = omega arith in
     simp (half, w, v, even_place, next, on_2)
 
-pub bne_not : (c : Cpu) → c.pc + 2 < 28672 → slice_index c.mem c.pc ≡ 513 → c.flags.zero ≡ true → quiet (state_of c) ≡ Some (state_of (record c { pc = c.pc + 1 }))
+pub bne_not : (c : Cpu) → c.pc + 2 < 28672 → slice_index c.mem c.pc ≡ 513 → c.flags.zero ≡ true → quiet_step (state_of c) ≡ Some (state_of (record c { pc = c.pc + 1 }))
 bne_not c hp w v = let h : c.pc < 28672 = omega arith in simp (half, w, v, even_place, next)
 
 -- JMP to a word's value
-pub jump_step : (c : Cpu) (q : ℕ) → c.pc + 1 < 28672 → slice_index c.mem c.pc ≡ 95 → slice_index c.mem (c.pc + 1) ≡ 2 * q → quiet (state_of c) ≡ Some (state_of (record c { pc = q }))
+pub jump_step : (c : Cpu) (q : ℕ) → c.pc + 1 < 28672 → slice_index c.mem c.pc ≡ 95 → slice_index c.mem (c.pc + 1) ≡ 2 * q → quiet_step (state_of c) ≡ Some (state_of (record c { pc = q }))
 jump_step c q hp w a =
     let h : c.pc < 28672 = omega arith in
     simp (half, w, a, even_place, next)
@@ -49,7 +49,7 @@ pub gate_step : (c : Cpu) → c.pc < 28672 → slice_index c.mem c.pc ≡ 160 �
 gate_step c h w = simp (half, w, even_place, next)
 
 -- MOV SP,R5
-pub frame_step : (c : Cpu) → c.pc < 28672 → slice_index c.mem c.pc ≡ 4485 → quiet (state_of c) ≡ Some (state_of (record c { r5 = 2 * c.sp; pc = c.pc + 1; flags = flags_of (2 * c.sp) false c.flags.carry }))
+pub frame_step : (c : Cpu) → c.pc < 28672 → slice_index c.mem c.pc ≡ 4485 → quiet_step (state_of c) ≡ Some (state_of (record c { r5 = 2 * c.sp; pc = c.pc + 1; flags = flags_of (2 * c.sp) false c.flags.carry }))
 frame_step c h w = simp (half, w, even_place, next)
 
 -- a gate stands here

@@ -3,10 +3,11 @@ use Rattle.std.proofs.Common.{◌≡◌, ℕ, ◌+◌, ◌-◌, ◌*◌, ◌/◌
 use Rattle.std.specs.Prelude.{slice_index, slice_set, nat_le, nat_lt}
 use Rattle.std.proofs.lemmas.Bool.Decides.{nat_tests}
 use Rattle.pdp11_machine.specs.State.{is_place}
-use Rattle.pdp11_machine.specs.Words.{flags_of, sum_overflows, difference_overflows}
-use Rattle.console_service.specs.Console.{integer_text}
+use Rattle.pdp11_machine.specs.Words.{flags_of}
+use Rattle.pdp11_arithmetic.specs.Words.{sum_overflows, difference_overflows}
+use Rattle.dice_base.specs.IntegerText.{integer_text}
 use Rattle.console_service.specs.declared.memory_map.TheConstants.{CONSOLE_ROOM_BYTES, GLOBALS_WORD, MEMORY_END_WORD}
-use Rattle.console_service.specs.Run.{quiet}
+use Rattle.console_service.specs.Run.{quiet_step}
 use Rattle.console_service.specs.Cpu.{Cpu, state_of, HasAt}
 use Rattle.console_service.proofs.Texts.{written_fits}
 
@@ -92,7 +93,7 @@ Fits lo hi WriteInteger c = (0 < c.r1) × (c.r1 < 256) × (length c.console.outp
 Fits lo hi WriteEnd c = length c.console.output + 1 ≤ CONSOLE_ROOM_BYTES
 
 -- each operation is one step of the machine
-pub op_step : (lo hi : ℕ) (o : Op) (c : Cpu) → hi ≤ MEMORY_END_WORD → c.pc < GLOBALS_WORD → HasAt c.mem c.pc (words_of o) → Fits lo hi o c → quiet (state_of c) ≡ Some (state_of (after o c))
+pub op_step : (lo hi : ℕ) (o : Op) (c : Cpu) → hi ≤ MEMORY_END_WORD → c.pc < GLOBALS_WORD → HasAt c.mem c.pc (words_of o) → Fits lo hi o c → quiet_step (state_of c) ≡ Some (state_of (after o c))
 op_step lo hi (PushNumber n) c top hp has fit =
     let w = has.0 in let a = has.1.0 in
     let h : c.pc < 28672 = omega arith in let h1 : c.pc + 1 < 28672 = omega arith in

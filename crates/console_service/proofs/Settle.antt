@@ -4,8 +4,8 @@ use Rattle.console_service.specs.Cpu.{Cpu}
 use Rattle.console_service.proofs.Compose.{comes_on, comes_within, no_step}
 use Rattle.console_service.specs.Block.{Gate, Block}
 use Rattle.console_service.specs.Semantics.{Begin, At, Hanging, Semantics}
-use Rattle.console_service.specs.Plain.{Program, Now, State, Goes, Stuck, IsLive, is_gate, rests, unless, next, settle, cost_of, cost, spent, sum_unless, stretch, IsGoodState}
-use Rattle.console_service.specs.Image.{Runs, passed, gate_length, HasImage, Before, Represents}
+use Rattle.console_service.specs.Plain.{FormProgram, Now, StretchState, Goes, Stuck, IsLive, is_gate, stretch_rests, stretch_unless, next, settle, cost_of, cost, spent, sum_unless, stretch, IsGoodState}
+use Rattle.console_service.specs.Image.{Runs, passed, gate_length, HasImage, Before, RepresentsStretch}
 use Rattle.console_service.proofs.Stretch.{begun, stretch_runs, image_still}
 
 pub runs_same : (c : Cpu) → Runs 0 c c
@@ -28,25 +28,25 @@ module _ {Form Path Data : Type 0} (M : Semantics Form Path Data) where
 
   module _ (holds_on : (d : Data) (hs : List (Hanging Path)) (c : Cpu) (q : ℕ) → M.Holds d hs c → M.Holds d hs (record c { pc = q })) where
     -- a stretch that begins behind no gate
-    next_runs : (P : Program Form) (es : ℕ → Option Block) (marks : ℕ → Bool) (x : State Path Data) (c : Cpu) → rests x ≡ false → HasImage M P es marks c.mem → Represents M P es x c → IsGoodState M P x → (e : Cpu) × Runs (cost M P x) c e × Represents M P es (next M P x) e
+    next_runs : (P : FormProgram Form) (es : ℕ → Option Block) (marks : ℕ → Bool) (x : StretchState Path Data) (c : Cpu) → stretch_rests x ≡ false → HasImage M P es marks c.mem → RepresentsStretch M P es x c → IsGoodState M P x → (e : Cpu) × Runs (cost M P x) c e × RepresentsStretch M P es (next M P x) e
     next_runs P es marks (Goes s) c moves image st good =
         let zero_long : c.pc + gate_length M s.start ≡ c.pc = omega (arith, no_gate_length s.start moves) in
         let same : begun M s.start c ≡ c = ap (λ k. record c { pc = k }) zero_long in
-        subst (λ k. (e : Cpu) × Runs (cost_of M P s.start (P.form s.name)) k e × Represents M P es (stretch M P s) e) same
+        subst (λ k. (e : Cpu) × Runs (cost_of M P s.start (P.form s.name)) k e × RepresentsStretch M P es (stretch M P s) e) same
         (stretch_runs M holds_on P es marks s c image st good)
     next_runs P es marks other c moves image st good = absurd (grind (arith, moves))
 
     -- on to the next gate, where each stretch on the way finds what it relies on
-    pub settle_runs : (P : Program Form) (es : ℕ → Option Block) (marks : ℕ → Bool) (Good : State Path Data → Type 0) → ((x : State Path Data) → Good x → IsGoodState M P x) → ((x : State Path Data) → Good x → rests x ≡ false → Good (next M P x))
-        → (n : ℕ) (x : State Path Data) (c : Cpu) → HasImage M P es marks c.mem → Represents M P es x c → Good x → IsLive (settle M P n x) → (e : Cpu) × Runs (spent M P n x) c e × Represents M P es (settle M P n x) e
-    settle_runs P es marks Good fits keeps zero x c image st good live = at_rest (rests x) live
+    pub settle_runs : (P : FormProgram Form) (es : ℕ → Option Block) (marks : ℕ → Bool) (Good : StretchState Path Data → Type 0) → ((x : StretchState Path Data) → Good x → IsGoodState M P x) → ((x : StretchState Path Data) → Good x → stretch_rests x ≡ false → Good (next M P x))
+        → (n : ℕ) (x : StretchState Path Data) (c : Cpu) → HasImage M P es marks c.mem → RepresentsStretch M P es x c → Good x → IsLive (settle M P n x) → (e : Cpu) × Runs (spent M P n x) c e × RepresentsStretch M P es (settle M P n x) e
+    settle_runs P es marks Good fits keeps zero x c image st good live = at_rest (stretch_rests x) live
       where
-        at_rest : (r : Bool) → IsLive (unless r x (λ y. Stuck)) → (e : Cpu) × Runs 0 c e × Represents M P es (unless r x (λ y. Stuck)) e
+        at_rest : (r : Bool) → IsLive (stretch_unless r x (λ y. Stuck)) → (e : Cpu) × Runs 0 c e × RepresentsStretch M P es (stretch_unless r x (λ y. Stuck)) e
         at_rest true live = (c, runs_same c, st)
         at_rest false live = absurd live
-    settle_runs P es marks Good fits keeps (suc n) x c image st good live = by (rests x) refl live (λ d i st good live. settle_runs P es marks Good fits keeps n (next M P x) d i st good live)
+    settle_runs P es marks Good fits keeps (suc n) x c image st good live = by (stretch_rests x) refl live (λ d i st good live. settle_runs P es marks Good fits keeps n (next M P x) d i st good live)
       where
-        by : (r : Bool) → rests x ≡ r → IsLive (unless r x (λ y. settle M P n (next M P y))) → ((d : Cpu) → HasImage M P es marks d.mem → Represents M P es (next M P x) d → Good (next M P x) → IsLive (settle M P n (next M P x)) → (e : Cpu) × Runs (spent M P n (next M P x)) d e × Represents M P es (settle M P n (next M P x)) e) → (e : Cpu) × Runs (sum_unless r (cost M P x + spent M P n (next M P x))) c e × Represents M P es (unless r x (λ y. settle M P n (next M P y))) e
+        by : (r : Bool) → stretch_rests x ≡ r → IsLive (stretch_unless r x (λ y. settle M P n (next M P y))) → ((d : Cpu) → HasImage M P es marks d.mem → RepresentsStretch M P es (next M P x) d → Good (next M P x) → IsLive (settle M P n (next M P x)) → (e : Cpu) × Runs (spent M P n (next M P x)) d e × RepresentsStretch M P es (settle M P n (next M P x)) e) → (e : Cpu) × Runs (sum_unless r (cost M P x + spent M P n (next M P x))) c e × RepresentsStretch M P es (stretch_unless r x (λ y. settle M P n (next M P y))) e
         by true eq live rest = (c, runs_same c, st)
         by false eq live rest =
             let (d, run, st1) = next_runs P es marks x c eq image st (fits x good) in
@@ -54,8 +54,8 @@ module _ {Form Path Data : Type 0} (M : Semantics Form Path Data) where
             (e, runs_then (cost M P x) (spent M P n (next M P x)) c d e run run2, st2)
 
     -- from a gate to the next
-    pub gate_runs : (P : Program Form) (es : ℕ → Option Block) (marks : ℕ → Bool) (Good : State Path Data → Type 0) → ((x : State Path Data) → Good x → IsGoodState M P x) → ((x : State Path Data) → Good x → rests x ≡ false → Good (next M P x))
-        → (n : ℕ) (s : Now Path Data) (c : Cpu) → is_gate s.start ≡ true → HasImage M P es marks c.mem → Before M P es s c → Good (Goes s) → Good (stretch M P s) → IsLive (settle M P n (stretch M P s)) → (e : Cpu) × Runs (cost M P (Goes s) + spent M P n (stretch M P s)) (passed c) e × Represents M P es (settle M P n (stretch M P s)) e
+    pub gate_runs : (P : FormProgram Form) (es : ℕ → Option Block) (marks : ℕ → Bool) (Good : StretchState Path Data → Type 0) → ((x : StretchState Path Data) → Good x → IsGoodState M P x) → ((x : StretchState Path Data) → Good x → stretch_rests x ≡ false → Good (next M P x))
+        → (n : ℕ) (s : Now Path Data) (c : Cpu) → is_gate s.start ≡ true → HasImage M P es marks c.mem → Before M P es s c → Good (Goes s) → Good (stretch M P s) → IsLive (settle M P n (stretch M P s)) → (e : Cpu) × Runs (cost M P (Goes s) + spent M P n (stretch M P s)) (passed c) e × RepresentsStretch M P es (settle M P n (stretch M P s)) e
     gate_runs P es marks Good fits keeps n s c gate image st good later live =
         let same : begun M s.start c ≡ passed c = ap (λ k. record c { pc = c.pc + k }) (gate_length_one s.start gate) in
         let (d, run0, st1) = stretch_runs M holds_on P es marks s c image st (fits (Goes s) good) in

@@ -1,7 +1,9 @@
 -- What clauses see of a console, and what its services do.
-use Rattle.std.specs.Prelude.{ℕ, ◌+◌, ◌-◌, Bool, ◌&&◌, ◌||◌, nat_eq, nat_lt, nat_le, if◌then◌else◌, List, [], ◌∷◌, ◌++◌, length, replicate, decimal}
-use Rattle.pdp11_machine.specs.State.{State, reg}
+use Rattle.std.specs.Prelude.{ℕ, ◌+◌, ◌-◌, Bool, ◌&&◌, ◌||◌, nat_eq, nat_lt, nat_le, if◌then◌else◌, List, [], ◌∷◌, ◌++◌, length}
+use Rattle.dice_base.specs.IntegerText.{integer_text}
+use Rattle.pdp11_machine.specs.State.{MachineState, reg}
 use Rattle.console_service.specs.declared.memory_map.TheConstants.{CONSOLE_ROOM_BYTES}
+use Rattle.console_service.specs.declared.services.TheConstants as service
 use Rattle.console_service.specs.declared.console.Served.{Served}
 use Rattle.console_service.specs.declared.console.Served.TheVariants.{Done, Finished, Error, Full}
 
@@ -9,35 +11,38 @@ use Rattle.console_service.specs.declared.console.Served.TheVariants.{Done, Fini
 pub record ConsoleState : Type 0 where
   pub output : List ℕ
 
--- the numbers of the services: the end of the program, an integer, a line end
+-- the services that are built: the end of the program, an integer, a line end
 abbrev pub is_service : ℕ → Bool
-is_service number = nat_eq number 0 || nat_eq number 4 || nat_eq number 8
+is_service number =
+    nat_eq number service.PROGRAM_END
+    || nat_eq number service.WRITE_INTEGER
+    || nat_eq number service.WRITE_LINE_END
 
--- the sign and the size of a word as a signed number
+-- the sign of a word as a signed number, as a text
 abbrev pub sign_of : ℕ → List ℕ
 sign_of word = if nat_lt word 32768 then [] else 45 ∷ []
 
+-- its magnitude
 abbrev pub size_of : ℕ → ℕ
 size_of word = if nat_lt word 32768 then word else 65536 - word
 
--- a text of a width: spaces before it, and never cut
-abbrev pub padded : ℕ → List ℕ → List ℕ
-padded width text = replicate (width - length text) 32 ++ text
+-- a text is added to the output where all of it has room; else nothing is written
+unfoldable pub after_write : List ℕ → MachineState → ConsoleState → MachineState × ConsoleState × Served
+after_write text s k =
+    if nat_le (length k.output + length text) CONSOLE_ROOM_BYTES
+    then (s, record k { output = k.output ++ text }, Done)
+    else (s, k, Full)
 
--- the text of an integer (ISO 7185:1990, 6.9.3.2)
-unfoldable pub integer_text : ℕ → ℕ → List ℕ
-integer_text word width = padded width (sign_of word ++ decimal (size_of word))
+-- the integer in R0 is written in the width in R1
+abbrev pub after_integer_write : MachineState → ConsoleState → MachineState × ConsoleState × Served
+after_integer_write s k =
+    if nat_le 1 (reg s 1) && nat_le (reg s 1) service.MAX_WIDTH
+    then after_write (integer_text (reg s 0) (reg s 1)) s k
+    else (s, k, Error service.WIDTH_ERROR)
 
--- a text goes behind the output where all of it has room
-unfoldable pub written : List ℕ → State → ConsoleState → State × ConsoleState × Served
-written text s k = if nat_le (length k.output + length text) CONSOLE_ROOM_BYTES then (s, record k { output = k.output ++ text }, Done) else (s, k, Full)
-
-abbrev pub integer_written : State → ConsoleState → State × ConsoleState × Served
-integer_written s k = if nat_le 1 (reg s 1) && nat_le (reg s 1) 255 then written (integer_text (reg s 0) (reg s 1)) s k else (s, k, Error 11)
-
--- a service: the integer in R0 has the width in R1
-abbrev pub served : ℕ → State → ConsoleState → State × ConsoleState × Served
-served number s k =
-    if nat_eq number 0 then (s, k, Finished)
-    else (if nat_eq number 4 then integer_written s k
-    else written (10 ∷ []) s k)
+-- what a service leaves, and how it ended
+abbrev pub service_result : ℕ → MachineState → ConsoleState → MachineState × ConsoleState × Served
+service_result number s k =
+    if nat_eq number service.PROGRAM_END then (s, k, Finished)
+    else (if nat_eq number service.WRITE_INTEGER then after_integer_write s k
+    else after_write (10 ∷ []) s k)

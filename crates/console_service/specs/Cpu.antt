@@ -1,8 +1,8 @@
--- A machine whose stack and program stand at whole words, and the areas of its memory.
+-- A machine whose stack and program stand at whole words, and runs between them.
 use Rattle.std.specs.Prelude.{◌≡◌, ℕ, ◌+◌, ◌*◌, ◌<◌, ◌≤◌, List, [], ◌∷◌, length, slice_index, Some}
 use Rattle.pdp11_machine.specs.State.{Flags}
 use Rattle.console_service.specs.Console.{ConsoleState}
-use Rattle.console_service.specs.Run.{Whole, runs}
+use Rattle.console_service.specs.Run.{MachineAndConsole, quiet_steps}
 
 -- the registers, with the stack and the program as word numbers, the memory, the status and the console
 pub record Cpu : Type 0 where
@@ -19,8 +19,14 @@ pub record Cpu : Type 0 where
   pub upper : ℕ
   pub console : ConsoleState
 
-abbrev pub state_of : Cpu → Whole
-state_of c = (record { memory = c.mem; registers = c.r0 ∷ c.r1 ∷ c.r2 ∷ c.r3 ∷ c.r4 ∷ c.r5 ∷ (2 * c.sp) ∷ (2 * c.pc) ∷ []; flags = c.flags; upper = c.upper }, c.console)
+-- the machine and its console, with SP and PC as byte addresses
+abbrev pub state_of : Cpu → MachineAndConsole
+state_of c = (record {
+  memory = c.mem;
+  registers = c.r0 ∷ c.r1 ∷ c.r2 ∷ c.r3 ∷ c.r4 ∷ c.r5 ∷ (2 * c.sp) ∷ (2 * c.pc) ∷ [];
+  flags = c.flags;
+  upper = c.upper;
+}, c.console)
 
 -- the words stand in the memory from this place on
 abbrev pub HasAt : List ℕ → ℕ → List ℕ → Type 0
@@ -38,4 +44,4 @@ pub record Keeps (lo hi : ℕ) (c d : Cpu) : Type 0 where
 pub record Comes (most : ℕ) (c d : Cpu) : Type 0 where
   pub count : ℕ
   pub few : count ≤ most
-  pub run : runs count (state_of c) ≡ Some (state_of d)
+  pub run : quiet_steps count (state_of c) ≡ Some (state_of d)

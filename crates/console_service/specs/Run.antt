@@ -2,72 +2,79 @@
 use Rattle.std.specs.Prelude.{ℕ, zero, suc, ◌%◌, Bool, false, ◌&&◌, ◌||◌, nat_eq, nat_le, if◌then◌else◌, Option, Some, None, option_and_then}
 use Rattle.pdp11_machine.specs.declared.StepEnd.{StepEnd}
 use Rattle.pdp11_machine.specs.declared.StepEnd.TheVariants.{Went, Halted, Trap}
-use Rattle.pdp11_machine.specs.State.{State, reg, word_at}
+use Rattle.pdp11_machine.specs.State.{MachineState, reg, word_at}
 use Rattle.pdp11_machine.specs.Step.{machine_step}
 use Rattle.console_service.specs.declared.console.Served.{Served}
 use Rattle.console_service.specs.declared.console.Served.TheVariants.{Done, Finished, Error as ServiceError, Full, BadPlace}
 use Rattle.console_service.specs.declared.instruction.Stop.{Stop}
 use Rattle.console_service.specs.declared.instruction.Stop.TheVariants.{Ended, Error, Bus, ConsoleFull}
-use Rattle.console_service.specs.Console.{ConsoleState, is_service, served}
+use Rattle.console_service.specs.Console.{ConsoleState, is_service, service_result}
+use Rattle.console_service.specs.declared.opcodes.TheConstants.{NOP, BPT}
+use Rattle.console_service.specs.declared.services.TheConstants.{MAX_ERROR}
+use Rattle.pdp11_machine.specs.declared.vectors.TheConstants as vector
 
 -- the machine and its console
-abbrev pub Whole : Type 0
-Whole = State × ConsoleState
+abbrev pub MachineAndConsole : Type 0
+MachineAndConsole = MachineState × ConsoleState
 
 -- what an instruction leaves: the run goes on, or stops
-pub data Carried : Type 0 where
-  Goes : (m : Whole) → Carried
-  Stops : (stop : Stop) → (m : Whole) → Carried
+pub data RunStep : Type 0 where
+  Continues : (m : MachineAndConsole) → RunStep
+  Stops : (stop : Stop) → (m : MachineAndConsole) → RunStep
 
-abbrev pub after_service : State × ConsoleState × Served → Carried
-after_service (s, k, Done) = Goes (s, k)
+-- how a run goes on after a service
+abbrev pub after_service : MachineState × ConsoleState × Served → RunStep
+after_service (s, k, Done) = Continues (s, k)
 after_service (s, k, Finished) = Stops Ended (s, k)
 after_service (s, k, ServiceError n) = Stops (Error n) (s, k)
 after_service (s, k, Full) = Stops ConsoleFull (s, k)
 after_service (s, k, BadPlace) = Stops Bus (s, k)
 
--- EMT asks for a service, TRAP 1 to 14 is a run-time error
-abbrev pub after_trap : ℕ → ℕ → State → ConsoleState → Carried
-after_trap vector number s k =
-    if nat_eq vector 24 && is_service number then after_service (served number s k)
-    else (if nat_eq vector 28 && nat_le 1 number && nat_le number 14 then Stops (Error number) (s, k)
+-- EMT asks for a service, and TRAP 1 to 14 is a run-time error; every other trap ends the run, since nothing serves it
+abbrev pub after_trap : ℕ → ℕ → MachineState → ConsoleState → RunStep
+after_trap at number s k =
+    if nat_eq at vector.EMULATOR && is_service number then after_service (service_result number s k)
+    else (if nat_eq at vector.PROGRAM && nat_le 1 number && nat_le number MAX_ERROR then Stops (Error number) (s, k)
     else Stops Bus (s, k))
 
-abbrev pub after_step : ConsoleState → State × StepEnd → Carried
-after_step k (s, Went) = Goes (s, k)
+-- how a run goes on after a step; the low byte of the word at a trap is its number
+abbrev pub after_step : ConsoleState → MachineState × StepEnd → RunStep
+after_step k (s, Went) = Continues (s, k)
 after_step k (s, Halted) = Stops Bus (s, k)
-after_step k (s, Trap vector word) = after_trap vector (word % 256) s k
+after_step k (s, Trap at word) = after_trap at (word % 256) s k
 
 -- one instruction, with the service that it asks for
-abbrev pub instruction : Whole → Carried
+abbrev pub instruction : MachineAndConsole → RunStep
 instruction m = after_step m.1 (machine_step m.0)
 
 -- what a call that answers the stop of a run leaves
-abbrev pub left_by : Whole → Option Stop → Carried
-left_by m None = Goes m
-left_by m (Some stop) = Stops stop m
+abbrev pub run_step : MachineAndConsole → Option Stop → RunStep
+run_step m None = Continues m
+run_step m (Some stop) = Stops stop m
 
 -- the word at PC
-abbrev pub word_here : Whole → Option ℕ
+abbrev pub word_here : MachineAndConsole → Option ℕ
 word_here m = word_at m.0 (reg m.0 7)
 
--- a gate is NOP or BPT
+-- a gate is NOP, or BPT where a break is set
 abbrev pub is_gate_word : Option ℕ → Bool
 is_gate_word None = false
-is_gate_word (Some word) = nat_eq word 160 || nat_eq word 3
+is_gate_word (Some word) = nat_eq word NOP || nat_eq word BPT
 
-abbrev pub gate_here : Whole → Bool
+-- a gate stands at PC
+abbrev pub gate_here : MachineAndConsole → Bool
 gate_here m = is_gate_word (word_here m)
 
-abbrev pub gone_on : Carried → Option Whole
-gone_on (Goes m) = Some m
-gone_on (Stops stop m) = None
+-- the state, where the run goes on
+abbrev pub running_state : RunStep → Option MachineAndConsole
+running_state (Continues m) = Some m
+running_state (Stops stop m) = None
 
 -- an instruction that is no gate, and after which the run goes on
-abbrev pub quiet : Whole → Option Whole
-quiet m = if gate_here m then None else gone_on (instruction m)
+abbrev pub quiet_step : MachineAndConsole → Option MachineAndConsole
+quiet_step m = if gate_here m then None else running_state (instruction m)
 
 -- so many of them
-abbrev pub runs : ℕ → Whole → Option Whole
-runs zero m = Some m
-runs (suc n) m = option_and_then (runs n) (quiet m)
+abbrev pub quiet_steps : ℕ → MachineAndConsole → Option MachineAndConsole
+quiet_steps zero m = Some m
+quiet_steps (suc n) m = option_and_then (quiet_steps n) (quiet_step m)

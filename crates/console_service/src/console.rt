@@ -1,8 +1,9 @@
 //! The console: the bytes that the program wrote, and the services that EMT instructions ask for.
 ghost use Rattle.std.specs.Prelude.{◌≡◌, ◌+◌, ◌≤◌, ◌∷◌, [], ◌++◌, length, take, drop, min, replicate, decimal, IfOk, IsTrue};
-ghost use Rattle.console_service.specs.Console.{ConsoleState, is_service, sign_of, size_of, integer_text, written, integer_written, served};
+ghost use Rattle.dice_base.specs.IntegerText.{integer_text};
+ghost use Rattle.console_service.specs.Console.{ConsoleState, is_service, sign_of, size_of, after_write, after_integer_write, service_result};
 
-use crate::CONSOLE_ROOM_BYTES;
+use crate::{CONSOLE_ROOM_BYTES, services};
 use circular_buffer::HeapCircularBuffer;
 use dice_base::NoMemory;
 use itoa::Buffer;
@@ -11,7 +12,7 @@ use std::alloc::Global;
 use std::marker::Model;
 
 /// How a service ended.
-#[derive(Clone, Copy, PartialEq, Eq, Debug)]
+#[derive(Clone, Copy, PartialEq, Eq)]
 pub enum Served {
     /// It was done.
     Done,
@@ -83,29 +84,29 @@ impl Console {
     /// `Error` or `Full`, the console and the machine stay as they were.
     pub fn serve(&mut self, number: u8, machine: &mut Machine) -> Served
         requires { IsTrue (is_service number) }
-        ensures { (machine.new, self.new, result) ≡ served number machine.old self.old }
+        ensures { (machine.new, self.new, result) ≡ service_result number machine.old self.old }
     {
         match number {
-            0 => Served::Finished,
-            4 => self.write_integer(machine),
+            services::PROGRAM_END => Served::Finished,
+            services::WRITE_INTEGER => self.write_integer(machine),
             _ => self.write(machine, b"\n"),
         }
     }
 
     fn write_integer(&mut self, machine: &Machine) -> Served
-        ensures { (machine.now, self.new, result) ≡ integer_written machine.now self.old }
+        ensures { (machine.now, self.new, result) ≡ after_integer_write machine.now self.old }
     {
         let width = machine.register(1);
-        if width >= 1 && width <= 255 {
+        if width >= 1 && width <= services::MAX_WIDTH {
             self.write_padded(machine, machine.register(0), width)
         } else {
-            Served::Error(11)
+            Served::Error(services::WIDTH_ERROR)
         }
     }
 
     fn write_padded(&mut self, machine: &Machine, word: u16, width: u16) -> Served
         requires { width ≤ 255 }
-        ensures { (machine.now, self.new, result) ≡ written (integer_text word width) machine.now self.old }
+        ensures { (machine.now, self.new, result) ≡ after_write (integer_text word width) machine.now self.old }
     {
         let mut buffer = Buffer::new();
         let digits = buffer.format(size(word)).as_bytes();
@@ -120,9 +121,9 @@ impl Console {
         Served::Done
     }
 
-    #[tactic(auto, unfolding(crate::specs::Console::written))]
+    #[tactic(auto, unfolding(crate::specs::Console::after_write))]
     fn write(&mut self, machine: &Machine, text: &[u8]) -> Served
-        ensures { (machine.now, self.new, result) ≡ written text.now machine.now self.old }
+        ensures { (machine.now, self.new, result) ≡ after_write text.now machine.now self.old }
     {
         if text.len() > self.free() as usize {
             return Served::Full;

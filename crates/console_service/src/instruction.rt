@@ -1,12 +1,12 @@
 //! One instruction of the machine, with the service that it asks for.
 ghost use Rattle.std.specs.Prelude.{◌≡◌};
-ghost use Rattle.console_service.specs.Run.{left_by, instruction, after_trap};
+ghost use Rattle.console_service.specs.Run.{run_step, instruction, after_trap};
 
-use crate::{Console, Served};
-use pdp11_machine::{Machine, StepEnd};
+use crate::{Console, Served, services};
+use pdp11_machine::{Machine, StepEnd, vectors};
 
 /// Why a run stops at an instruction.
-#[derive(Clone, Copy, PartialEq, Eq, Debug)]
+#[derive(Clone, Copy)]
 pub enum Stop {
     /// The program has ended.
     Ended,
@@ -21,7 +21,7 @@ pub enum Stop {
 /// Executes one instruction, and the service where it is an EMT of a built one. A TRAP 1 to 14 is the run-time
 /// error of that number. `None` where the run may go on.
 pub fn execute(machine: &mut Machine, console: &mut Console) -> Option<Stop>
-    ensures { left_by (machine.new, console.new) result ≡ instruction (machine.old, console.old) }
+    ensures { run_step (machine.new, console.new) result ≡ instruction (machine.old, console.old) }
 {
     match machine.step() {
         StepEnd::Went => None,
@@ -31,9 +31,12 @@ pub fn execute(machine: &mut Machine, console: &mut Console) -> Option<Stop>
 }
 
 fn trapped(vector: u16, number: u8, machine: &mut Machine, console: &mut Console) -> Option<Stop>
-    ensures { left_by (machine.new, console.new) result ≡ after_trap vector number machine.old console.old }
+    ensures { run_step (machine.new, console.new) result ≡ after_trap vector number machine.old console.old }
 {
-    if vector == 24 && (number == 0 || number == 4 || number == 8) {
+    let is_service = number == services::PROGRAM_END
+        || number == services::WRITE_INTEGER
+        || number == services::WRITE_LINE_END;
+    if vector == vectors::EMULATOR && is_service {
         match console.serve(number, machine) {
             Served::Done => None,
             Served::Finished => Some(Stop::Ended),
@@ -41,7 +44,7 @@ fn trapped(vector: u16, number: u8, machine: &mut Machine, console: &mut Console
             Served::Full => Some(Stop::ConsoleFull),
             Served::BadPlace => Some(Stop::Bus),
         }
-    } else if vector == 28 && number >= 1 && number <= 14 {
+    } else if vector == vectors::PROGRAM && number >= 1 && number <= services::MAX_ERROR {
         Some(Stop::Error(number as u16))
     } else {
         Some(Stop::Bus)

@@ -5,8 +5,8 @@ mod block;
 mod console;
 mod instruction;
 mod memory_map;
-#[cfg(test)]
-mod tests;
+mod opcodes;
+pub mod services;
 
 pub use block::BlockCode;
 pub use console::{Console, Served};
@@ -16,3 +16,4 @@ pub use memory_map::{
     GLOBALS_WORD, HEAP_BYTE, HEAP_WORD, MEMORY_END_BYTE, MEMORY_END_WORD, PATCH_BYTE, PATCH_WORD,
     STACK_BYTE, STACK_WORD,
 };
+pub use opcodes::{BPT, EMT, NOP, TRAP};

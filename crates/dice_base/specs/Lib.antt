@@ -1,4 +1,5 @@
 pub mod Causes
+pub mod IntegerText
 pub mod Known
 pub mod Lexemes
 pub mod Lines

@@ -7,7 +7,7 @@ use Rattle.dice_base.specs.Known.{Consumes-nil, Consumes-trans, Appends-nil, App
 use Rattle.dice_base.specs.Lines.{NoFeed, NoFeeds, joined, some_line}
 use Rattle.script_lines.specs.Front.{strip}
 use Rattle.script_lines.specs.Took.{LastLine, PastRoom, Broken}
-use Rattle.pdp11_machine.specs.State.{State as MachineState}
+use Rattle.pdp11_machine.specs.State.{MachineState}
 use Rattle.dice_session.specs.declared.session.Session.{Session}
 use Rattle.dice_session.specs.World.{World, Over, Command, ReadsAll, empty_world, reply_of, world_after, missing_end, transcript_of, last_world}
 use Rattle.dice_session.specs.Lives.{Lives, Stands}

@@ -8,7 +8,7 @@ use Rattle.dice_base.specs.Lines.{NoFeeds, joined}
 use Rattle.dice_base.specs.LinesLaws.{joined-push, NoFeeds-push}
 use Rattle.script_lines.specs.Front.{strip}
 use Rattle.script_lines.specs.Took.{WholeLine}
-use Rattle.pdp11_machine.specs.State.{State as MachineState}
+use Rattle.pdp11_machine.specs.State.{MachineState}
 use Rattle.dice_session.specs.declared.session.Session.{Session}
 use Rattle.dice_session.specs.World.{Over, Command, ReadsAll, Reads, empty_world, reply_of, replies_from, world_after}
 use Rattle.dice_session.specs.Lives.{Lives}

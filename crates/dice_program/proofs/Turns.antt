@@ -9,7 +9,7 @@ use Rattle.dice_base.specs.Lines.{some_line}
 use Rattle.dice_base.specs.Part.{WritesPart}
 use Rattle.script_lines.specs.Front.{strip, kept_bytes, longest_text, SameFront}
 use Rattle.script_lines.specs.Took.{WholeLine, LastLine}
-use Rattle.pdp11_machine.specs.State.{State as MachineState}
+use Rattle.pdp11_machine.specs.State.{MachineState}
 use Rattle.dice_session.specs.declared.session.Session.{Session}
 use Rattle.dice_session.specs.World.{World, reply_of}
 use Rattle.dice_session.specs.Lives.{Lives, Replied}

@@ -6,7 +6,7 @@ use Rattle.dice_base.specs.Lines.{some_line}
 use Rattle.script_lines.specs.declared.line.LineFault.{LineFault}
 use Rattle.script_lines.specs.declared.line.LineFault.TheVariants.{SourceFailed}
 use Rattle.script_lines.specs.declared.line.LineFault.TheVariants as line
-use Rattle.pdp11_machine.specs.State.{State as MachineState}
+use Rattle.pdp11_machine.specs.State.{MachineState}
 use Rattle.dice_session.specs.declared.session.Session.{Session}
 use Rattle.dice_session.specs.World.{empty_world, world_after}
 use Rattle.dice_program.specs.declared.serve.Fault.{Fault}

@@ -4,7 +4,7 @@ use Rattle.std.specs.declared.option.Option.{Option}
 use Rattle.std.specs.Io.KnownBytes.{Appends, Consumes, IsAtEnd}
 use Rattle.dice_base.specs.Causes.{Rose}
 use Rattle.dice_base.specs.Part.{WritesPart}
-use Rattle.pdp11_machine.specs.State.{State as MachineState}
+use Rattle.pdp11_machine.specs.State.{MachineState}
 use Rattle.dice_session.specs.World.{line, Command, Over, empty_world, reply_of, ReadsAll, AreCommands, transcript_of, last_world}
 use Rattle.dice_session.specs.Lives.{Stands}
 use Rattle.dice_program.specs.Script.{ended_lines, acted, IsTooLong}

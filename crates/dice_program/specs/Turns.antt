@@ -9,7 +9,7 @@ use Rattle.script_lines.specs.Took.{WholeLine, LastLine, PastRoom, Broken}
 use Rattle.script_lines.specs.declared.line.LineFault.{LineFault}
 use Rattle.script_lines.specs.declared.line.LineFault.TheVariants.{SourceFailed}
 use Rattle.script_lines.specs.declared.line.LineFault.TheVariants as line
-use Rattle.pdp11_machine.specs.State.{State as MachineState}
+use Rattle.pdp11_machine.specs.State.{MachineState}
 use Rattle.dice_session.specs.declared.session.Session.{Session}
 use Rattle.dice_session.specs.World.{World, Command, Reads, ReadsAll, reply_of, replies_from, world_after}
 use Rattle.dice_session.specs.Lives.{Lives, IsOver}

@@ -5,28 +5,28 @@ use Rattle.std.specs.Prelude.{◌==◌, ◌/◌, nat_lt, nat_eq, if◌then◌els
 use Rattle.std.specs.Fmt.{decimal}
 use Rattle.std.proofs.lemmas.Bool.Decides.{nat_tests}
 use Rattle.std.proofs.lemmas.List.{append_assoc}
-use Rattle.pdp11_machine.specs.State.{State as MachineState, reg}
+use Rattle.pdp11_machine.specs.State.{MachineState, reg}
 use Rattle.console_service.specs.Console.{ConsoleState}
 use Rattle.console_service.specs.Cpu.{Cpu}
 use Rattle.console_service.specs.declared.memory_map.TheConstants.{CODE_WORD, MEMORY_END_WORD}
 use Rattle.target_monitor.specs.declared.gates.GoEnd.TheVariants as end
 use Rattle.target_monitor.specs.declared.gates.Went.{Went}
-use Rattle.target_monitor.specs.Go.{gone}
+use Rattle.target_monitor.specs.Go.{go_result}
 use Rattle.simulation.specs.Gates.{told, left_at, run_end}
 use Rattle.console_service.specs.Block.{Gate, Block}
 use Rattle.console_service.specs.Semantics.{At}
-use Rattle.console_service.specs.Plain.{Program, Goes}
-use Rattle.console_service.specs.Image.{IsBlock, HasImage, InWords, Before, Represents as BlocksRepresent}
+use Rattle.console_service.specs.Plain.{FormProgram, Goes}
+use Rattle.console_service.specs.Image.{IsBlock, HasImage, InWords, Before, RepresentsStretch as BlocksRepresent}
 use Rattle.pascal_semantics.specs.declared.form.Statement.{Statement}
 use Rattle.pascal_semantics.specs.Charge.{charge_of, program_charge}
 use Rattle.pascal_semantics.specs.Program.{program_of}
 use Rattle.pascal_semantics.specs.Valid.{IsProgram, program_name}
 use Rattle.pascal_semantics.specs.State.{Status, NotStarted, Halted, Ended as IsEnded, Failed as HasFailed, Activation, State as PascalState}
 use Rattle.pascal_semantics.specs.Run.{run_of}
-use Rattle.statement_code.specs.Gives.{HasGlobals}
+use Rattle.statement_code.specs.ExpressionCode.{HasGlobals}
 use Rattle.statement_code.specs.Forms.{BlockForm, Store, HasFrame, simple}
 use Rattle.image_plan.specs.Links.{blocks_of}
-use Rattle.image_plan.specs.Load.{place_from, place_of, placed, HasParts}
+use Rattle.image_plan.specs.Load.{place_from, place_of, extent_of, HasParts}
 use Rattle.image_plan.proofs.Laid.{is_same}
 use Rattle.dice_session.specs.World.{line, newest_name, ending_of, written_part, has_ended, has_ended_by}
 use Rattle.dice_session.specs.Places.{name_from, name_at, ending_told, ends}
@@ -85,8 +85,8 @@ named_at ss m q len at e lo hi = by (m == program_name) refl e
         ap (λ b. if b then program_name else name_from (CODE_WORD + program_charge) ss at) (not_below at (CODE_WORD + program_charge) (omega (arith, r.behind, lo))) ∙ r.is
 
 -- a word of a block tells the block's name
-name_in : (ss : List Statement) (blocks : ℕ → Option Block) (n : ℕ) (b : Block) (at : ℕ) → ((n : ℕ) → placed (blocks n) ≡ place_of ss n) → blocks n ≡ Some b → InWords b.place b at → name_at ss at ≡ n
-name_in ss blocks n b at places e (lo, hi) = named_at ss n b.place (length b.words) at (sym (places n) ∙ ap placed e) lo hi
+name_in : (ss : List Statement) (blocks : ℕ → Option Block) (n : ℕ) (b : Block) (at : ℕ) → ((n : ℕ) → extent_of (blocks n) ≡ place_of ss n) → blocks n ≡ Some b → InWords b.place b at → name_at ss at ≡ n
+name_in ss blocks n b at places e (lo, hi) = named_at ss n b.place (length b.words) at (sym (places n) ∙ ap extent_of e) lo hi
 
 -- ---- what a run leaves
 
@@ -148,8 +148,8 @@ failed_told ss error place n activations e = ap (λ m. line (codes "error " ++ (
     back : (place : ℕ) → place + 1 - 1 ≡ place
     back place = omega (arith)
 
-module _ (ss : List Statement) (es : ℕ → Option Block) (places : (n : ℕ) → placed (es n) ≡ place_of ss n) (parts : HasParts es) where
-  abbrev B : Program BlockForm
+module _ (ss : List Statement) (es : ℕ → Option Block) (places : (n : ℕ) → extent_of (es n) ≡ place_of ss n) (parts : HasParts es) where
+  abbrev B : FormProgram BlockForm
   B = blocks_of (program_of ss)
 
   name_of : (n : ℕ) (b : Block) (at : ℕ) → es n ≡ Some b → InWords b.place b at → name_at ss at ≡ n
@@ -216,7 +216,7 @@ module _ (ss : List Statement) (es : ℕ → Option Block) (places : (n : ℕ) �
 
 -- ---- the whole
 
-pub after : (ss : List Statement) (is : IsProgram ss) (es : ℕ → Option Block) (gates : ℕ) (t : PascalState) (r : MachineState × ConsoleState × Went) → ((n : ℕ) → placed (es n) ≡ place_of ss n) → HasParts es → length r.0.memory ≡ MEMORY_END_WORD → Gone ss is es gates t r → After ss t r
+pub after : (ss : List Statement) (is : IsProgram ss) (es : ℕ → Option Block) (gates : ℕ) (t : PascalState) (r : MachineState × ConsoleState × Went) → ((n : ℕ) → extent_of (es n) ≡ place_of ss n) → HasParts es → length r.0.memory ≡ MEMORY_END_WORD → Gone ss is es gates t r → After ss t r
 after ss is es gates t r places parts long g = subst (After ss t) (sym g.tells) (left_after (subst (λ r. length r.0.memory ≡ MEMORY_END_WORD) g.tells long))
   where
     left : LeftBy ss es gates g.count t.status t g.cpu
@@ -247,7 +247,7 @@ after ss is es gates t r places parts long g = subst (After ss t) (sym g.tells) 
 -- ---- what is said of a run
 
 pub ran : (ss : List Statement) (gates : ℕ) (s : PascalState) (machine : MachineState) (console : ConsoleState) (before after_all : List ℕ) (r : MachineState × ConsoleState × Went) (k : ConsoleState)
-    → IsProgram ss → 1 ≤ gates → r ≡ gone gates machine console → length r.0.memory ≡ MEMORY_END_WORD → k.output ≡ []
+    → IsProgram ss → 1 ≤ gates → r ≡ go_result gates machine console → length r.0.memory ≡ MEMORY_END_WORD → k.output ≡ []
     → after_all ≡ (before ++ written_part r.1.output) ++ ending_told ss r.2.end (reg r.0 7 / 2) → CanRunFrom ss s machine console → Ran ss gates s (ends r.2.end) before after_all r.0 k
 ran ss gates s machine console before after_all r k is some same long empty told h =
     let t = run_of (program_of ss) gates s in

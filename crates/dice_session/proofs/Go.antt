@@ -1,19 +1,19 @@
 -- A run on the machine is the run of the plain machine.
 use Rattle.std.proofs.Common.{◌≡◌, ℕ, ◌+◌, ◌<◌, ◌≤◌, Bool, true, false, List, [], ◌∷◌, Option, Some, refl, sym, ap, ◌∙◌, subst, arith}
 use Rattle.std.specs.Prelude.{◌==◌, if◌then◌else◌, find}
-use Rattle.pdp11_machine.specs.State.{State as MachineState}
+use Rattle.pdp11_machine.specs.State.{MachineState}
 use Rattle.console_service.specs.Console.{ConsoleState}
 use Rattle.console_service.specs.Run.{gate_here}
 use Rattle.console_service.specs.Cpu.{Cpu, state_of}
 use Rattle.console_service.specs.declared.memory_map.TheConstants.{MEMORY_END_WORD}
 use Rattle.target_monitor.specs.declared.gates.Went.{Went}
-use Rattle.target_monitor.specs.Go.{instruction_limit, gone}
+use Rattle.target_monitor.specs.Go.{instruction_limit, go_result}
 use Rattle.simulation.specs.Gates.{told, drive_from, gates_from, gates_passed}
 use Rattle.simulation.proofs.Go.{go_runs, go_from_runs}
 use Rattle.console_service.specs.Block.{First, Gate, Block}
 use Rattle.console_service.specs.Semantics.{At, Hanging}
-use Rattle.console_service.specs.Plain.{Program, Now, State, Goes, IsLive, is_gate, stretch, drive, cost, spent}
-use Rattle.console_service.specs.Image.{HasImage, Represents as BlocksRepresent}
+use Rattle.console_service.specs.Plain.{FormProgram, Now, StretchState, Goes, IsLive, is_gate, stretch, drive, cost, spent}
+use Rattle.console_service.specs.Image.{HasImage, RepresentsStretch as BlocksRepresent}
 use Rattle.pascal_semantics.specs.declared.form.Statement.{Statement}
 use Rattle.pascal_semantics.specs.Program.{Program as PascalProgram, Row, row_of, rows_of, entry_of, program_of}
 use Rattle.pascal_semantics.specs.Valid.{IsProgram, program_name}
@@ -40,10 +40,10 @@ module _ (ss : List Statement) (is : IsProgram ss) where
   abbrev P : PascalProgram
   P = program_of ss
 
-  abbrev B : Program BlockForm
+  abbrev B : FormProgram BlockForm
   B = blocks_of P
 
-  abbrev IsFine : State NoCall Store → Type 0
+  abbrev IsFine : StretchState NoCall Store → Type 0
   IsFine = Good ss is
 
   within : (s : Now NoCall Store) → IsFine (Goes s) → is_gate s.start ≡ true → cost simple B (Goes s) + spent simple B short (stretch simple B s) < instruction_limit
@@ -64,7 +64,7 @@ module _ (ss : List Statement) (is : IsProgram ss) where
       subst (λ b. GoodNamed ss is b (record { name = n; start = At Gate; data_now = record { globals = globals; output = []; started = true }; older = [] })) (sym (not_program ss n row is.free e))
       (record { words = words; room = omega (arith, left_most ss n, is.fits) })
 
-  pub gate_gone : (es : ℕ → Option Block) (gates n : ℕ) (row : Row) (globals : List ℕ) (c : Cpu) → 1 ≤ gates → row_of P n ≡ Some row → AreWords globals → HasImage simple B es unmarked c.mem → BlocksRepresent simple B es (stage_of (before_gate n globals [])) c → Gone es gates (driven gates P (before_gate n globals [])) (gone gates (state_of c).0 (state_of c).1)
+  pub gate_gone : (es : ℕ → Option Block) (gates n : ℕ) (row : Row) (globals : List ℕ) (c : Cpu) → 1 ≤ gates → row_of P n ≡ Some row → AreWords globals → HasImage simple B es unmarked c.mem → BlocksRepresent simple B es (stage_of (before_gate n globals [])) c → Gone es gates (driven gates P (before_gate n globals [])) (go_result gates (state_of c).0 (state_of c).1)
   gate_gone es gates n row globals c some e words image stands =
       let d = driven_is ss is.free gates n row globals [] e in
       let x = stage_of (before_gate n globals []) in
@@ -73,7 +73,7 @@ module _ (ss : List Statement) (is : IsProgram ss) where
       record { cpu = cpu; stands = subst (λ x. BlocksRepresent simple B es x cpu) (sym d.stage) st; image = im; count = gates_passed simple B short unmarked gates x; tells = same ∙ ap (λ y. told gates (gates_passed simple B short unmarked gates x) y cpu) (sym d.stage); formed = d.formed }
 
 -- before the start, a state with these variables
-abbrev pub unstarted : List ℕ → State NoCall Store
+abbrev pub unstarted : List ℕ → StretchState NoCall Store
 unstarted globals = Goes (record { name = program_name; start = At First; data_now = record { globals = globals; output = []; started = false }; older = [] })
 
 abbrev pub unwritten : PascalState → PascalState
@@ -88,7 +88,7 @@ first_driven (x ∷ ss) is gates s =
 
 -- from the begin of the program
 begin_gone : (ss : List Statement) (is : IsProgram ss) (es : ℕ → Option Block) (gates : ℕ) (s : PascalState) (c : Cpu) → AreWords s.globals → gate_here (state_of c) ≡ false → HasImage simple (blocks_of (program_of ss)) es unmarked c.mem → BlocksRepresent simple (blocks_of (program_of ss)) es (unstarted s.globals) c
-    → Gone ss is es gates (driven gates (program_of ss) (started_by NotStarted (program_of ss) (unwritten s))) (gone gates (state_of c).0 (state_of c).1)
+    → Gone ss is es gates (driven gates (program_of ss) (started_by NotStarted (program_of ss) (unwritten s))) (go_result gates (state_of c).0 (state_of c).1)
 begin_gone ss is es gates s c words no_gate image stands =
     let B = blocks_of (program_of ss) in
     let d = first_driven ss is gates s in
@@ -102,8 +102,8 @@ begin_gone ss is es gates s c words no_gate image stands =
 -- ---- from one simulated state to another
 
 -- a run on a machine that stands for a state
-pub run_gone : (ss : List Statement) (is : IsProgram ss) (s : PascalState) (gates : ℕ) (machine : MachineState) (console : ConsoleState) → 1 ≤ gates → IsWellFormed ss s → CanRun s → (h : Simulates ss s machine console) → Gone ss is h.blocks gates (run_of (program_of ss) gates s) (gone gates machine console)
-run_gone ss is s gates machine console some formed can h = subst (λ m. Gone ss is h.blocks gates (run_of P gates s) (gone gates m.0 m.1)) h.is (by s.status refl formed can h.represents.control h.represents.frames)
+pub run_gone : (ss : List Statement) (is : IsProgram ss) (s : PascalState) (gates : ℕ) (machine : MachineState) (console : ConsoleState) → 1 ≤ gates → IsWellFormed ss s → CanRun s → (h : Simulates ss s machine console) → Gone ss is h.blocks gates (run_of (program_of ss) gates s) (go_result gates machine console)
+run_gone ss is s gates machine console some formed can h = subst (λ m. Gone ss is h.blocks gates (run_of P gates s) (go_result gates m.0 m.1)) h.is (by s.status refl formed can h.represents.control h.represents.frames)
   where
     P : PascalProgram
     P = program_of ss
@@ -114,21 +114,21 @@ run_gone ss is s gates machine console some formed can h = subst (λ m. Gone ss 
     words : AreWords s.globals
     words = h.represents.variables.small
 
-    begin : AtBegin (h.blocks program_name) c → c.sp ≡ MEMORY_END_WORD → Gone ss is h.blocks gates (driven gates P (started_by NotStarted P (unwritten s))) (gone gates (state_of c).0 (state_of c).1)
+    begin : AtBegin (h.blocks program_name) c → c.sp ≡ MEMORY_END_WORD → Gone ss is h.blocks gates (driven gates P (started_by NotStarted P (unwritten s))) (go_result gates (state_of c).0 (state_of c).1)
     begin at sp =
         begin_gone ss is h.blocks gates s c words at.no_gate h.image
         (record { form = ProgramBlock; has = refl; fits = tt; block = at.lies; entry = at.is; offset = 0; start = at.begin; place = omega (arith, at.place); long = h.long; holds = record { globals_are = h.represents.variables; frame = sp; console = h.represents.console }; waits = tt })
 
-    gate : (n : ℕ) (row : Row) → row_of P n ≡ Some row → AtGate (h.blocks n) c → HasFrame c → Gone ss is h.blocks gates (driven gates P (before_gate n s.globals [])) (gone gates (state_of c).0 (state_of c).1)
+    gate : (n : ℕ) (row : Row) → row_of P n ≡ Some row → AtGate (h.blocks n) c → HasFrame c → Gone ss is h.blocks gates (driven gates P (before_gate n s.globals [])) (go_result gates (state_of c).0 (state_of c).1)
     gate n row e at frame =
         gate_gone ss is h.blocks gates n row s.globals c some e words h.image
         (record { form = StatementBlock row.form; has = form_at ss is.free n row e; fits = tt; block = at.lies; entry = at.is; offset = 0; start = at.gate; place = omega (arith, at.place); long = h.long; holds = record { globals_are = h.represents.variables; frame = frame; console = h.represents.console }; waits = tt })
 
-    by : (x : Status) → s.status ≡ x → IsWellFormedBy ss x s.activations → CanRunBy x → StandsAt h.blocks x s.activations c → FramesStand x c → Gone ss is h.blocks gates (run_of P gates s) (gone gates (state_of c).0 (state_of c).1)
-    by NotStarted e f g at frames = subst (λ t. Gone ss is h.blocks gates (driven gates P t) (gone gates (state_of c).0 (state_of c).1)) (sym (ap (λ x. started_by x P (unwritten s)) e)) (begin at frames.0)
+    by : (x : Status) → s.status ≡ x → IsWellFormedBy ss x s.activations → CanRunBy x → StandsAt h.blocks x s.activations c → FramesStand x c → Gone ss is h.blocks gates (run_of P gates s) (go_result gates (state_of c).0 (state_of c).1)
+    by NotStarted e f g at frames = subst (λ t. Gone ss is h.blocks gates (driven gates P t) (go_result gates (state_of c).0 (state_of c).1)) (sym (ap (λ x. started_by x P (unwritten s)) e)) (begin at frames.0)
     by Halted e (n, row, found, acts) g at frames =
         let same : unwritten s ≡ before_gate n s.globals [] = ap (λ x. record (unwritten s) { status = x }) e ∙ ap (λ a. record { status = Halted; activations = a; globals = s.globals; output = [] }) acts in
         let same2 : started P (unwritten s) ≡ before_gate n s.globals [] = ap (λ x. started_by x P (unwritten s)) e ∙ same in
-        subst (λ t. Gone ss is h.blocks gates (driven gates P t) (gone gates (state_of c).0 (state_of c).1)) (sym same2) (gate n row found (subst (λ a. AtNewest h.blocks a c) acts at).1 frames)
+        subst (λ t. Gone ss is h.blocks gates (driven gates P t) (go_result gates (state_of c).0 (state_of c).1)) (sym same2) (gate n row found (subst (λ a. AtNewest h.blocks a c) acts at).1 frames)
     by IsEnded e f g at frames = absurd g
     by (HasFailed error name) e f g at frames = absurd g

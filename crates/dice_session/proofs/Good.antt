@@ -8,7 +8,7 @@ use Rattle.std.proofs.lemmas.Bool.{cases_lt}
 use Rattle.dice_base.specs.declared.link.LinkTo.TheVariants.{Next}
 use Rattle.console_service.specs.Block.{First, Gate, Step, End, Leave, Spot}
 use Rattle.console_service.specs.Semantics.{Begin, At, Back}
-use Rattle.console_service.specs.Plain.{Program, Pending, Now, State, Goes, Ended, Failed, Stuck, rests, sum_unless, begun_at, moved, stretch_of, next, cost_of, cost, spent, IsGoodNow, IsGoodState}
+use Rattle.console_service.specs.Plain.{FormProgram, Pending, Now, StretchState, Goes, Ended, Failed, Stuck, stretch_rests, sum_unless, begun_at, moved, stretch_of, next, cost_of, cost, spent, IsGoodNow, IsGoodState}
 use Rattle.pascal_semantics.specs.declared.form.Operand.{Operand}
 use Rattle.pascal_semantics.specs.declared.form.Operand.TheVariants.{Global, Number}
 use Rattle.pascal_semantics.specs.declared.form.SimpleForm.{SimpleForm}
@@ -17,11 +17,12 @@ use Rattle.pascal_semantics.specs.declared.form.SimpleForm.TheVariants.{Assign, 
 use Rattle.pascal_semantics.specs.Charge.{charge_of, operand_charge, second_charge, width_charge, charges_of}
 use Rattle.pascal_semantics.specs.Program.{Program as PascalProgram, Target, Gate as GateOf, Finish, Row, row_of, rows_of, entry_of, program_of}
 use Rattle.pascal_semantics.specs.Valid.{IsOperand, IsSecond, IsWidth, IsForm, AllDiffer, IsProgram, program_name}
-use Rattle.pascal_semantics.specs.Step.{Result, Value, Error, operand_value, width_of, integer_text}
-use Rattle.pascal_semantics.specs.Outcome.{sum_outcome, form_outcome}
-use Rattle.statement_code.specs.Forms.{BlockForm, ProgramBlock, StatementBlock, NoCall, Store, stored, exit_by, outcome_of, block_charge, simple}
+use Rattle.pascal_semantics.specs.Step.{Evaluation, Value, Error, operand_value, width_of}
+use Rattle.dice_base.specs.IntegerText.{integer_text}
+use Rattle.pascal_semantics.specs.Evaluations.{sum_evaluation, form_evaluation}
+use Rattle.statement_code.specs.Forms.{BlockForm, ProgramBlock, StatementBlock, NoCall, Store, after_effect, exit_by, evaluation_of, block_charge, simple}
 use Rattle.statement_code.proofs.Sums.{sum-is, is_lost}
-use Rattle.statement_code.proofs.Texts.{text-is, length_of_text}
+use Rattle.statement_code.proofs.Texts.{length_of_text}
 use Rattle.std.proofs.lemmas.Nat.{mod_below}
 use Rattle.std.proofs.Math.Dec.{lit<}
 use Rattle.image_plan.specs.Links.{blocks_of, spot_of, form_of, end_of}
@@ -50,8 +51,8 @@ block_bound : (f : BlockForm) → block_charge f ≤ 84
 block_bound ProgramBlock = omega arith
 block_bound (StatementBlock f) = charge_bound f
 
-module _ (B : Program BlockForm) where
-  pub cost_bound : (x : State NoCall Store) → cost simple B x ≤ 1376256
+module _ (B : FormProgram BlockForm) where
+  pub cost_bound : (x : StretchState NoCall Store) → cost simple B x ≤ 1376256
   cost_bound (Goes s) = by (B.form s.name)
     where
       by : (o : Option BlockForm) → cost_of simple B s.start o ≤ 1376256
@@ -65,17 +66,17 @@ module _ (B : Program BlockForm) where
   unless_bound true n m le = omega arith
   unless_bound false n m le = le
 
-  pub spent_bound : (x : State NoCall Store) → spent simple B 2 x ≤ 2752512
+  pub spent_bound : (x : StretchState NoCall Store) → spent simple B 2 x ≤ 2752512
   spent_bound x =
-      let one : spent simple B 1 (next simple B x) ≤ 1376256 = unless_bound (rests (next simple B x)) (cost simple B (next simple B x) + 0) 1376256 (omega (arith, cost_bound (next simple B x))) in
-      unless_bound (rests x) (cost simple B x + spent simple B 1 (next simple B x)) 2752512 (omega (arith, cost_bound x, one))
+      let one : spent simple B 1 (next simple B x) ≤ 1376256 = unless_bound (stretch_rests (next simple B x)) (cost simple B (next simple B x) + 0) 1376256 (omega (arith, cost_bound (next simple B x))) in
+      unless_bound (stretch_rests x) (cost simple B x + spent simple B 1 (next simple B x)) 2752512 (omega (arith, cost_bound x, one))
 
 -- ---- values and texts
 
 abbrev pub AreWords : List ℕ → Type 0
 AreWords globals = (k : ℕ) → slice_index globals k < 65536
 
-abbrev IsWordResult : Result → Type 0
+abbrev IsWordResult : Evaluation → Type 0
 IsWordResult (Value v) = v < 65536
 IsWordResult (Error number) = Unit {0}
 
@@ -83,7 +84,7 @@ operand_word : (o : Operand) (globals : List ℕ) → IsOperand o → AreWords g
 operand_word (Number n) globals is words = omega (arith, is)
 operand_word (Global g) globals is words = words g
 
-outcome_word : (a : Operand) (o : Option Operand) (globals : List ℕ) → IsOperand a → IsSecond o → AreWords globals → IsWordResult (sum_outcome a o globals)
+outcome_word : (a : Operand) (o : Option Operand) (globals : List ℕ) → IsOperand a → IsSecond o → AreWords globals → IsWordResult (sum_evaluation a o globals)
 outcome_word a None globals isa iso words = operand_word a globals isa words
 outcome_word a (Some b) globals isa isb words = subst IsWordResult (sym (sum-is (operand_value a globals) (operand_value b globals) (operand_word a globals isa words) (operand_word b globals isb words))) (by (is_lost (operand_value a globals) (operand_value b globals)))
   where
@@ -108,20 +109,20 @@ operand_least (Global g) = omega arith
 operand_least (Number n) = omega arith
 
 -- a statement writes six bytes at the most for each word of its block
-stored_room : (f : SimpleForm) (v : ℕ) (d : Store) → IsForm f → v < 65536 → length (stored f v d).output ≤ length d.output + 6 * charge_of f
+stored_room : (f : SimpleForm) (v : ℕ) (d : Store) → IsForm f → v < 65536 → length (after_effect f v d).output ≤ length d.output + 6 * charge_of f
 stored_room (Assign g e) v d is lt = omega arith
 stored_room (WriteLine e w) v d is lt =
     let text = integer_text v (width_of w) in
-    let short : length text ≤ 256 = subst (λ t. length t ≤ 256) (text-is v (width_of w) lt) (length_of_text v (width_of w) lt (width_small w is.1)) in
+    let short : length text ≤ 256 = length_of_text v (width_of w) lt (width_small w is.1) in
     omega (arith, length-append d.output (text ++ 10 ∷ []), length-append text (10 ∷ []), short, operand_least e.first)
 stored_room Empty v d is lt = omega arith
 
-stored_words : (f : SimpleForm) (v : ℕ) (d : Store) → v < 65536 → AreWords d.globals → AreWords (stored f v d).globals
+stored_words : (f : SimpleForm) (v : ℕ) (d : Store) → v < 65536 → AreWords d.globals → AreWords (after_effect f v d).globals
 stored_words (Assign g e) v d lt words = set_words d.globals g v lt words
 stored_words (WriteLine e w) v d lt words = words
 stored_words Empty v d lt words = words
 
-form_word : (f : SimpleForm) (globals : List ℕ) → IsForm f → AreWords globals → IsWordResult (form_outcome f globals)
+form_word : (f : SimpleForm) (globals : List ℕ) → IsForm f → AreWords globals → IsWordResult (form_evaluation f globals)
 form_word (Assign g e) globals is words = outcome_word e.first e.second globals is.1.0 is.1.1 words
 form_word (WriteLine e w) globals is words = outcome_word e.first e.second globals is.0.0 is.0.1 words
 form_word Empty globals is words = omega arith
@@ -177,7 +178,7 @@ module _ (ss : List Statement) (valid : IsProgram ss) where
   abbrev P : PascalProgram
   P = program_of ss
 
-  abbrev B : Program BlockForm
+  abbrev B : FormProgram BlockForm
   B = blocks_of P
 
   -- there is room for all that statements of so many words write
@@ -194,11 +195,11 @@ module _ (ss : List Statement) (valid : IsProgram ss) where
   GoodNamed true s = GoodBegin s.start s.data_now
   GoodNamed false s = HasRoom (left_from ss s.name) s.data_now
 
-  abbrev pub Good : State NoCall Store → Type 0
+  abbrev pub Good : StretchState NoCall Store → Type 0
   Good (Goes s) = GoodNamed (s.name == program_name) s
   Good other = Unit {0}
 
-  pub good_fits : (x : State NoCall Store) → Good x → IsGoodState simple B x
+  pub good_fits : (x : StretchState NoCall Store) → Good x → IsGoodState simple B x
   good_fits (Goes s) good = by (s.name == program_name) good
     where
       by_start : (st : Begin NoCall) (d : Store) → GoodBegin st d → simple.IsGood ProgramBlock st d
@@ -225,7 +226,7 @@ module _ (ss : List Statement) (valid : IsProgram ss) where
   good_spot (GateOf k) d h = let g = h k refl in subst (λ b. GoodNamed b (record { name = k; start = At Gate; data_now = d; older = [] })) (sym (other_test k program_name (λ x. g.0 (sym x)))) g.1
   good_spot Finish d h = tt
 
-  pub good_keeps : (x : State NoCall Store) → Good x → Good (next simple B x)
+  pub good_keeps : (x : StretchState NoCall Store) → Good x → Good (next simple B x)
   good_keeps (Goes s) good = by (s.name == program_name) refl good
     where
       good_older : (older : List (Pending NoCall)) (spot : Spot) (d : Store) → Good (begun_at simple B spot d []) → Good (begun_at simple B spot d older)
@@ -246,11 +247,11 @@ module _ (ss : List Statement) (valid : IsProgram ss) where
       by_start (At Leave) d t g = tt
       by_start (Back path) d t g = absurd path
 
-      by_result : (row : Row) (r : Result) → (s.name == program_name) ≡ false → row_of P s.name ≡ Some row → HasRoom (left_from ss s.name) s.data_now → IsWordResult r → Good (moved simple B s.name s.older (exit_by row.form s.data_now r))
+      by_result : (row : Row) (r : Evaluation) → (s.name == program_name) ≡ false → row_of P s.name ≡ Some row → HasRoom (left_from ss s.name) s.data_now → IsWordResult r → Good (moved simple B s.name s.older (exit_by row.form s.data_now r))
       by_result row (Error number) t e g w = tt
       by_result row (Value v) t e g w =
           let is = row_form IsForm ss s.name row valid.forms e in
-          let d = stored row.form v s.data_now in
+          let d = after_effect row.form v s.data_now in
           let spot : B.link_end s.name Next ≡ spot_of row.continuation = ap (λ b. if b then spot_of P.entry else end_of (row_of P s.name)) t ∙ ap end_of e in
           subst (λ q. Good (begun_at simple B q d s.older)) (sym spot)
           (good_older s.older (spot_of row.continuation) d (good_spot row.continuation d (λ k h. ((found_apart program_name ss s.name row valid.free e).after k h, record { words = stored_words row.form v s.data_now w g.words; room = omega (arith, g.room, stored_room row.form v s.data_now is w, row_left ss s.name k row valid.differ e h) }))))
@@ -258,7 +259,7 @@ module _ (ss : List Statement) (valid : IsProgram ss) where
       by_row : (o : Option Row) → (s.name == program_name) ≡ false → row_of P s.name ≡ o → HasRoom (left_from ss s.name) s.data_now → Good (stretch_of simple B s (form_of o))
       by_row None t e g = tt
       by_row (Some row) t e g =
-          by_result row (outcome_of row.form s.data_now) t e g (form_word row.form s.data_now.globals (row_form IsForm ss s.name row valid.forms e) g.words)
+          by_result row (evaluation_of row.form s.data_now) t e g (form_word row.form s.data_now.globals (row_form IsForm ss s.name row valid.forms e) g.words)
 
       by : (b : Bool) → (s.name == program_name) ≡ b → GoodNamed b s → Good (stretch_of simple B s (if b then Some ProgramBlock else form_of (row_of P s.name)))
       by true t g = by_start s.start s.data_now t g

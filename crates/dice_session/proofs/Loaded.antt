@@ -4,7 +4,7 @@ use Rattle.std.specs.Prelude.{slice_index, slice_set, ◌/◌, nat_eq, ◌||◌}
 use Rattle.std.proofs.lemmas.Bool.Decides.{nat_tests}
 use Rattle.std.proofs.lemmas.List.{get_or-set_same, get_or-set_other, length-replicate, get_or_past, get_or-replicate}
 use Rattle.std.proofs.lemmas.Bool.{cases_lt}
-use Rattle.pdp11_machine.specs.State.{State as MachineState, with_word, zero_machine}
+use Rattle.pdp11_machine.specs.State.{MachineState, with_word, zero_machine}
 use Rattle.console_service.specs.Console.{ConsoleState}
 use Rattle.console_service.specs.Run.{gate_here}
 use Rattle.console_service.specs.Cpu.{Cpu, state_of, HasAt}
@@ -15,7 +15,7 @@ use Rattle.pascal_semantics.specs.State.{loaded_state}
 use Rattle.statement_code.specs.Emitted.{IsNoGate}
 use Rattle.pascal_semantics.specs.Valid.{IsProgram, program_name}
 use Rattle.dice_session.proofs.After.{parts_of}
-use Rattle.image_plan.specs.Load.{IsLoad, placed}
+use Rattle.image_plan.specs.Load.{IsLoad, extent_of}
 use Rattle.dice_session.specs.Places.{poked, ready}
 use Rattle.dice_session.specs.Simulates.{StandsFor}
 
@@ -121,4 +121,4 @@ loaded_stands ss ws is l k empty = record {
     small n = omega (arith, zeros 4096 n)
 
     at : (l.parts.program.place ≡ CODE_WORD) × (length l.parts.program.words ≡ program_charge)
-    at = parts_of l.parts.program.place (length l.parts.program.words) CODE_WORD program_charge (sym (ap placed l.parts.entry) ∙ l.places program_name)
+    at = parts_of l.parts.program.place (length l.parts.program.words) CODE_WORD program_charge (sym (ap extent_of l.parts.entry) ∙ l.places program_name)

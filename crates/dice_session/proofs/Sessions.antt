@@ -4,7 +4,7 @@ use Rattle.std.specs.Prelude.{◌==◌, ◌&&◌, OnOk, bytes_eq, codes, if◌th
 use Rattle.std.proofs.lemmas.Bool.{lt-ltb, le-ltb}
 use Rattle.std.proofs.lemmas.List.{append_assoc, length-take}
 use Rattle.std.specs.Option.{option_map}
-use Rattle.pdp11_machine.specs.State.{State as MachineState}
+use Rattle.pdp11_machine.specs.State.{MachineState}
 use Rattle.script_lines.specs.Front.{longest_text, SameFront}
 use Rattle.pascal_semantics.specs.declared.form.Statement.{Statement}
 use Rattle.pascal_semantics.specs.Charge.{program_charge, charges_of}

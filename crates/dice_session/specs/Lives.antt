@@ -2,7 +2,7 @@
 use Rattle.std.specs.Prelude.{◌≡◌, ℕ, ◌+◌, Bool, true, false, List, [], ◌∷◌, ◌++◌, take, Option, Some, None}
 use Rattle.std.specs.Option.{option_map}
 use Rattle.script_lines.specs.Front.{longest_text}
-use Rattle.pdp11_machine.specs.State.{State as MachineState, zero_machine}
+use Rattle.pdp11_machine.specs.State.{MachineState, zero_machine}
 use Rattle.pascal_semantics.specs.State.{State}
 use Rattle.pascal_semantics.specs.declared.form.Statement.{Statement}
 use Rattle.pascal_semantics.specs.Valid.{IsProgram}

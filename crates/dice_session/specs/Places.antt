@@ -5,7 +5,7 @@ use Rattle.console_service.specs.declared.memory_map.TheConstants.{CODE_WORD}
 use Rattle.pascal_semantics.specs.declared.form.Statement.{Statement}
 use Rattle.pascal_semantics.specs.Charge.{charge_of, program_charge}
 use Rattle.pascal_semantics.specs.Valid.{program_name}
-use Rattle.pdp11_machine.specs.State.{State, with_word, with_reg}
+use Rattle.pdp11_machine.specs.State.{MachineState, with_word, with_reg}
 use Rattle.target_monitor.specs.declared.gates.GoEnd.{GoEnd}
 use Rattle.target_monitor.specs.declared.gates.GoEnd.TheVariants.{Counted, AtBreak, Ended, Error}
 use Rattle.dice_session.specs.World.{line}
@@ -34,10 +34,10 @@ ends (Error error) = true
 ends other = false
 
 -- words are written from this word number on
-unfoldable pub poked : State → ℕ → List ℕ → State
+unfoldable pub poked : MachineState → ℕ → List ℕ → MachineState
 poked m place [] = m
 poked m place (w ∷ ws) = poked (with_word m (2 * place) w) (place + 1) ws
 
 -- the machine before the first run: SP at the end of the memory, PC at the begin of the code
-abbrev pub ready : State → State
+abbrev pub ready : MachineState → MachineState
 ready m = with_reg (with_reg m 6 57344) 7 512

@@ -8,7 +8,7 @@ use Rattle.console_service.specs.Block.{First, Gate, Block}
 use Rattle.console_service.specs.Image.{InWords, end_word, trap_word}
 use Rattle.pascal_semantics.specs.Valid.{program_name}
 use Rattle.pascal_semantics.specs.State.{Status, NotStarted, Halted, Ended, Failed, Activation, State}
-use Rattle.statement_code.specs.Gives.{HasGlobals}
+use Rattle.statement_code.specs.ExpressionCode.{HasGlobals}
 use Rattle.statement_code.specs.Forms.{HasFrame}
 
 -- the machine stands at the begin of the program's block, at byte 512, where no gate stands

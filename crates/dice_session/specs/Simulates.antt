@@ -1,14 +1,14 @@
 -- The simulation relation of a session: the machine's memory holds the present program, and the machine stands for its
 -- state.
 use Rattle.std.specs.Prelude.{◌≡◌, ℕ, Bool, false, List, [], ◌∷◌, ◌++◌, length, Option, Some}
-use Rattle.pdp11_machine.specs.State.{State as MachineState}
+use Rattle.pdp11_machine.specs.State.{MachineState}
 use Rattle.console_service.specs.Console.{ConsoleState}
 use Rattle.console_service.specs.Cpu.{Cpu, state_of}
 use Rattle.console_service.specs.declared.memory_map.TheConstants.{MEMORY_END_WORD}
 use Rattle.console_service.specs.Block.{Block}
 use Rattle.console_service.specs.Image.{HasImage}
 use Rattle.image_plan.specs.Links.{blocks_of}
-use Rattle.image_plan.specs.Load.{placed, place_of, HasParts}
+use Rattle.image_plan.specs.Load.{extent_of, place_of, HasParts}
 use Rattle.pascal_semantics.specs.declared.form.Statement.{Statement}
 use Rattle.pascal_semantics.specs.Program.{Row, row_of, program_of}
 use Rattle.pascal_semantics.specs.State.{Status, NotStarted, Halted, Activation, State}
@@ -46,7 +46,7 @@ pub record Simulates (ss : List Statement) (s : State) (machine : MachineState) 
   pub is : state_of cpu ≡ (machine, console)
   pub long : length cpu.mem ≡ MEMORY_END_WORD
   pub blocks : ℕ → Option Block
-  pub places : (n : ℕ) → placed (blocks n) ≡ place_of ss n
+  pub places : (n : ℕ) → extent_of (blocks n) ≡ place_of ss n
   pub parts : HasParts blocks
   pub image : HasImage simple (blocks_of (program_of ss)) blocks (λ n. false) cpu.mem
   pub represents : Represents blocks s cpu

@@ -1,6 +1,6 @@
 -- The end of a text that is to be loaded.
 use Rattle.std.specs.Prelude.{ℕ, List}
-use Rattle.pdp11_machine.specs.State.{State as MachineState}
+use Rattle.pdp11_machine.specs.State.{MachineState}
 use Rattle.dice_session.specs.World.{World, load_of}
 use Rattle.dice_session.specs.Reading.{Reading, IsReading}
 use Rattle.dice_session.specs.Lives.{Became}

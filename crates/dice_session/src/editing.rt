@@ -2,7 +2,7 @@
 ghost use Rattle.std.specs.Prelude.{◌≡◌, ◌≤◌, ◌++◌, ℕ, List, length, Some, OnOk};
 ghost use Rattle.pascal_tree.specs.declared.program.Tree.{Tree};
 ghost use Rattle.simple_form.specs.Simple.{resolved};
-ghost use Rattle.pdp11_machine.specs.State.{State as MachineState};
+ghost use Rattle.pdp11_machine.specs.State.{MachineState};
 ghost use Rattle.dice_command.specs.Command.{Replace};
 ghost use Rattle.dice_session.specs.Reading.{OneStatement};
 ghost use Rattle.dice_session.specs.Readings.{AreNamed};

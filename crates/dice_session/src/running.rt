@@ -2,7 +2,7 @@
 ghost use Rattle.std.specs.Prelude.{◌≡◌, ◌≤◌, ◌++◌, [], IfOk, OnOk, OnErr};
 ghost use Rattle.pascal_semantics.specs.State.{State};
 ghost use Rattle.pascal_semantics.specs.Valid.{IsProgram};
-ghost use Rattle.target_monitor.specs.Go.{gone};
+ghost use Rattle.target_monitor.specs.Go.{go_result};
 ghost use Rattle.dice_session.specs.World.{written_part};
 ghost use Rattle.dice_session.specs.Places.{ending_told, ends};
 ghost use Rattle.dice_session.specs.Simulates.{CanRunFrom, Ran};

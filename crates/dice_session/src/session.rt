@@ -1,6 +1,6 @@
 //! The session: what each line of a script does, and the reply to it.
 ghost use Rattle.std.specs.Prelude.{◌≡◌, ◌≤◌, ◌++◌, ℕ, List, [], ◌∷◌, length, take, true, false, None, Some, IfOk, OnOk, bytes_eq};
-ghost use Rattle.pdp11_machine.specs.State.{State as MachineState, zero_machine};
+ghost use Rattle.pdp11_machine.specs.State.{MachineState, zero_machine};
 ghost use Rattle.script_lines.specs.Front.{SameFront};
 ghost use Rattle.pascal_tree.specs.declared.program.Tree.{Tree};
 ghost use Rattle.simple_form.specs.Simple.{resolved};

@@ -8,7 +8,7 @@ use Rattle.console_service.specs.Cpu.{HasAt}
 use Rattle.console_service.specs.declared.memory_map.TheConstants.{CODE_WORD, GLOBALS_WORD}
 use Rattle.console_service.proofs.Compose.{has_front, has_back}
 use Rattle.console_service.specs.declared.block.BlockCode.{BlockCode}
-use Rattle.console_service.specs.Block.{Gate, Block, laid, linked, or_zero, place_in, place_of}
+use Rattle.console_service.specs.Block.{Gate, Block, laid, linked, or_zero, place_in, spot_place}
 use Rattle.console_service.specs.BlockOf.{block_of, link_of, first_of}
 use Rattle.console_service.specs.Image.{Lies, IsEnd, HasLink}
 use Rattle.pascal_semantics.specs.declared.form.Statement.{Statement}
@@ -19,7 +19,7 @@ use Rattle.statement_code.specs.Forms.{BlockForm, ProgramBlock, StatementBlock, 
 use Rattle.statement_code.specs.Emitted.{IsNoGate, IsCodeOf, IsProgramCode, HasLinkWord}
 use Rattle.image_plan.specs.Links.{blocks_of, spot_of, form_of, end_of}
 use Rattle.image_plan.specs.Codes.{AreCodes, laid_to, next_place, statements_laid, first_place, finish_place, image_words, words_in}
-use Rattle.image_plan.specs.Load.{place_from, placed, IsLoad}
+use Rattle.image_plan.specs.Load.{place_from, extent_of, IsLoad}
 use Rattle.image_plan.specs.Load as load
 use Rattle.image_plan.proofs.Lists.{codes_long}
 use Rattle.image_plan.proofs.Laid.{blocks_from, all_blocks, other_test, is_same, laid_long, statements_long, one_link, gate_set, no_gate_set, LeadsTo, entry_leads, entry_free, found_apart, statement_found}
@@ -65,7 +65,7 @@ block_row p (s ∷ ss) (c ∷ cs) m b e = by (s.name == m) refl e (λ g. block_r
     by true t g rest = (first_row, ap (λ x. if x then Some first_row else find (λ r. r.name == m) (rows_of ss)) t)
     by false t g rest = let (row, found) = rest g in (row, ap (λ x. if x then Some first_row else find (λ r. r.name == m) (rows_of ss)) t ∙ found)
 
-block_placed : (p : ℕ) (ss : List Statement) (cs : List BlockCode) (m : ℕ) → AreCodes ss cs → placed (blocks_from p ss cs m) ≡ place_from p ss m
+block_placed : (p : ℕ) (ss : List Statement) (cs : List BlockCode) (m : ℕ) → AreCodes ss cs → extent_of (blocks_from p ss cs m) ≡ place_from p ss m
 block_placed p [] [] m h = refl
 block_placed p [] (c ∷ cs) m h = absurd h
 block_placed p (s ∷ ss) [] m h = absurd h
@@ -74,7 +74,7 @@ block_placed p (s ∷ ss) (c ∷ cs) m h = by (s.name == m) (block_placed (p + l
     long : length c.words.items ≡ charge_of s.form
     long = h.0.0.long
 
-    by : (t : Bool) → placed (blocks_from (p + length c.words.items) ss cs m) ≡ place_from (p + length c.words.items) ss m → placed (if t then Some (block_of p c) else blocks_from (p + length c.words.items) ss cs m) ≡ (if t then Some (p, charge_of s.form) else place_from (p + charge_of s.form) ss m)
+    by : (t : Bool) → extent_of (blocks_from (p + length c.words.items) ss cs m) ≡ place_from (p + length c.words.items) ss m → extent_of (if t then Some (block_of p c) else blocks_from (p + length c.words.items) ss cs m) ≡ (if t then Some (p, charge_of s.form) else place_from (p + charge_of s.form) ss m)
     by true rest = ap (λ k. Some (p, k)) long
     by false rest = rest ∙ ap (λ k. place_from (p + k) ss m) long
 
@@ -101,7 +101,7 @@ module _ (ss : List Statement) (program : BlockCode) (codes : List BlockCode) (v
   program_entry = refl
 
   -- the place of an end is where the link leads
-  lead_place : (t : Target) (target : ℕ) → LeadsTo es fin t target → place_of es (spot_of t) ≡ target
+  lead_place : (t : Target) (target : ℕ) → LeadsTo es fin t target → spot_place es (spot_of t) ≡ target
   lead_place (GateOf k) target (code, e, g) = ap (λ o. place_in o Gate) e ∙ ap (λ o. target + or_zero o) g ∙ omega arith
   lead_place Finish target e = sym e
 
@@ -126,7 +126,7 @@ module _ (ss : List Statement) (program : BlockCode) (codes : List BlockCode) (v
   program_lies mem here =
       let target = next_place (first_place program) fin codes in
       let link = parts.link in
-      let q : LinkTo → ℕ = λ to. place_of es ((blocks_of P).link_end program_name to) in
+      let q : LinkTo → ℕ = λ to. spot_place es ((blocks_of P).link_end program_name to) in
       let at : q link.link.to ≡ target = lead_place P.entry target program_leads in
       let words : laid (block_of CODE_WORD program) 160 q ≡ laid_to program target = ap (λ ws. linked ws (map link_of program.links.items) q) (no_gate_set program parts.gate) ∙ one_link program.words.items program.links.items link.link q target link.only at in
       record {
@@ -144,10 +144,10 @@ module _ (ss : List Statement) (program : BlockCode) (codes : List BlockCode) (v
       let f = statement_found (first_place program) fin ss codes mem m row valid.differ are here e in
       let l = found_apart program_name ss m row valid.free e in
       let leads = leads_all program ss codes fin row.continuation f.target l.after f.leads in
-      let q : LinkTo → ℕ = λ to. place_of es ((blocks_of P).link_end m to) in
+      let q : LinkTo → ℕ = λ to. spot_place es ((blocks_of P).link_end m to) in
       let spot : (to : LinkTo) → (blocks_of P).link_end m to ≡ spot_of row.continuation = λ to. ap (λ b. if b then spot_of P.entry else end_of (row_of P m)) other ∙ ap end_of e in
       let link = f.parts.link in
-      let at : q link.link.to ≡ f.target = ap (place_of es) (spot link.link.to) ∙ lead_place row.continuation f.target leads in
+      let at : q link.link.to ≡ f.target = ap (spot_place es) (spot link.link.to) ∙ lead_place row.continuation f.target leads in
       let some : 0 < length f.code.words.items = omega (arith, link.inside) in
       let words : laid (block_of f.place f.code) 160 q ≡ laid_to f.code f.target = ap (λ ws. linked ws (map link_of f.code.links.items) q) (gate_set f.code f.parts some) ∙ one_link f.code.words.items f.code.links.items link.link q f.target link.only at in
       record {
@@ -196,13 +196,13 @@ module _ (ss : List Statement) (program : BlockCode) (codes : List BlockCode) (v
       by false s g true t h = let same : block_of CODE_WORD program ≡ d = cc h in let r = block_ranged (first_place program) ss codes m b g in absurd (omega (arith, r.above, lk, at, ap (λ k. k.place) same, ap (λ k. length k.words) same))
       by false s g false t h = blocks_apart (first_place program) ss codes m n b d j k g h lj lk at
 
-  all_placed : (n : ℕ) → placed (es n) ≡ load.place_of ss n
+  all_placed : (n : ℕ) → extent_of (es n) ≡ load.place_of ss n
   all_placed n = by (n == program_name)
     where
       at : first_place program ≡ CODE_WORD + program_charge
       at = omega (arith, is.long)
 
-      by : (t : Bool) → placed (if t then Some (block_of CODE_WORD program) else blocks_from (first_place program) ss codes n) ≡ (if t then Some (CODE_WORD, program_charge) else place_from (CODE_WORD + program_charge) ss n)
+      by : (t : Bool) → extent_of (if t then Some (block_of CODE_WORD program) else blocks_from (first_place program) ss codes n) ≡ (if t then Some (CODE_WORD, program_charge) else place_from (CODE_WORD + program_charge) ss n)
       by true = ap (λ k. Some (CODE_WORD, k)) is.long
       by false = block_placed (first_place program) ss codes n are ∙ ap (λ k. place_from k ss n) at
 

@@ -3,7 +3,5 @@
 
 mod lay;
 mod load;
-#[cfg(test)]
-mod tests;
 
 pub use load::load_words;

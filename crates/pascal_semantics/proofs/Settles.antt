@@ -6,8 +6,8 @@ use Rattle.pascal_semantics.specs.declared.form.SimpleForm.{SimpleForm}
 use Rattle.pascal_semantics.specs.declared.form.SimpleForm.TheVariants.{Assign, WriteLine, Empty}
 use Rattle.pascal_semantics.specs.Program.{Program, Row, row_of, Target, Gate, Finish}
 use Rattle.pascal_semantics.specs.State.{Halted, Failed, OfStatement, OfSum, OfOperand, PendingFrame, Activation, State}
-use Rattle.pascal_semantics.specs.Step.{Result, Value, Error, sum_of, operand_value, effect_of, arrived, carried_on, delivered, frame_of, gate_passed, small_step}
-use Rattle.pascal_semantics.specs.Outcome.{sum_in, sum_outcome, form_outcome}
+use Rattle.pascal_semantics.specs.Step.{Evaluation, Value, Error, sum_of, operand_value, effect_of, arrived, carried_on, delivered, frame_of, gate_passed, small_step}
+use Rattle.pascal_semantics.specs.Evaluations.{sum_in, sum_evaluation, form_evaluation}
 use Rattle.pascal_semantics.specs.Run.{settled, steps_limit, unless, rests, rests_by}
 
 -- the values of the operands
@@ -48,7 +48,7 @@ error_frames f None globals = frame_of (OfStatement f) ∷ []
 error_frames f (Some e) globals = sum_frames f e (sum_values e globals)
 
 -- what a statement comes to, by the outcome of its sum
-abbrev pub outcome_state : Result → SimpleForm → Target → ℕ → List ℕ → List ℕ → State
+abbrev pub outcome_state : Evaluation → SimpleForm → Target → ℕ → List ℕ → List ℕ → State
 outcome_state (Value v) f target n globals output = arrived target (record { routine = 1; statement = n; frames = form_frames f v }) [] (effect_of f v (at_statement n (form_frames f v) globals output))
 outcome_state (Error number) f target n globals output = record { status = Failed number n; activations = program_at n (error_frames f (sum_in f) globals); globals = globals; output = output }
 
@@ -82,7 +82,7 @@ arrived_rests : (target : Target) (a : Activation) (s : State) → s.status ≡ 
 arrived_rests (Gate n) a s e = ap (λ x. rests_by x (record a { statement = n; frames = [] } ∷ [])) e
 arrived_rests Finish a s e = refl
 
-outcome_rests : (r : Result) (f : SimpleForm) (target : Target) (n : ℕ) (globals output : List ℕ) → rests (outcome_state r f target n globals output) ≡ true
+outcome_rests : (r : Evaluation) (f : SimpleForm) (target : Target) (n : ℕ) (globals output : List ℕ) → rests (outcome_state r f target n globals output) ≡ true
 outcome_rests (Value v) (Assign g e) target n globals output = arrived_rests target _ _ refl
 outcome_rests (Value v) (WriteLine e w) target n globals output = arrived_rests target _ _ refl
 outcome_rests (Value v) Empty target n globals output = arrived_rests target _ _ refl
@@ -98,7 +98,7 @@ value_settles m P n row f v globals output h =
 abbrev HasSum : SimpleForm → Sum → Type 0
 HasSum f e = sum_in f ≡ Some e
 
-sum_settles : (m : ℕ) (P : Program) (n : ℕ) (row : Row) (f : SimpleForm) (e : Sum) (r : Result) (globals output : List ℕ) → HasSum f e → row_of P n ≡ Some row
+sum_settles : (m : ℕ) (P : Program) (n : ℕ) (row : Row) (f : SimpleForm) (e : Sum) (r : Evaluation) (globals output : List ℕ) → HasSum f e → row_of P n ≡ Some row
     → settled (suc m) P (delivered r (frame_of (OfStatement f) ∷ []) (record { routine = 1; statement = n; frames = sum_frames f e (sum_values e globals) }) [] (at_statement n (sum_frames f e (sum_values e globals)) globals output)) ≡ outcome_state r f row.continuation n globals output
 sum_settles m P n row (Assign g x) e (Value v) globals output is h = value_settles m P n row (Assign g x) v globals output h
 sum_settles m P n row (WriteLine x w) e (Value v) globals output is h = value_settles m P n row (WriteLine x w) v globals output h
@@ -108,7 +108,7 @@ sum_settles m P n row f e (Error number) globals output is h =
 
 -- one operand after the other
 operands_settle : (m : ℕ) (P : Program) (n : ℕ) (row : Row) (f : SimpleForm) (a : Operand) (o : Option Operand) (globals output : List ℕ) → HasSum f (record { first = a; second = o }) → row_of P n ≡ Some row
-    → settled (suc (suc (suc (suc (suc (suc m)))))) P (at_statement n (sum_frames f (record { first = a; second = o }) []) globals output) ≡ outcome_state (sum_outcome a o globals) f row.continuation n globals output
+    → settled (suc (suc (suc (suc (suc (suc m)))))) P (at_statement n (sum_frames f (record { first = a; second = o }) []) globals output) ≡ outcome_state (sum_evaluation a o globals) f row.continuation n globals output
 operands_settle m P n row f a None globals output is h =
     let e : Sum = record { first = a; second = None } in
     settled_on (suc (suc (suc (suc (suc m))))) P (at_statement n (sum_frames f e []) globals output) (at_statement n (frame_of (OfOperand a) ∷ sum_frames f e []) globals output) refl refl
@@ -128,16 +128,16 @@ operands_settle m P n row f a (Some b) globals output is h =
 
 -- a whole statement, from its gate on
 pub statement_settles : (P : Program) (n : ℕ) (row : Row) (globals output : List ℕ) → row_of P n ≡ Some row
-    → settled steps_limit P (small_step P (before_gate n globals output)) ≡ outcome_state (form_outcome row.form globals) row.form row.continuation n globals output
+    → settled steps_limit P (small_step P (before_gate n globals output)) ≡ outcome_state (form_evaluation row.form globals) row.form row.continuation n globals output
 statement_settles P n row globals output h = ap (settled steps_limit P) (gate_step P n row globals output h) ∙ by row.form
   where
     with_sum : (f : SimpleForm) (e : Sum) → HasSum f e → small_step P (at_statement n (frame_of (OfStatement f) ∷ []) globals output) ≡ at_statement n (sum_frames f e []) globals output
-        → settled steps_limit P (at_statement n (frame_of (OfStatement f) ∷ []) globals output) ≡ outcome_state (sum_outcome e.first e.second globals) f row.continuation n globals output
+        → settled steps_limit P (at_statement n (frame_of (OfStatement f) ∷ []) globals output) ≡ outcome_state (sum_evaluation e.first e.second globals) f row.continuation n globals output
     with_sum f e is part =
         settled_on 999999 P (at_statement n (frame_of (OfStatement f) ∷ []) globals output) (at_statement n (sum_frames f e []) globals output) refl part
         ∙ operands_settle 999993 P n row f e.first e.second globals output is h
 
-    by : (f : SimpleForm) → settled steps_limit P (at_statement n (frame_of (OfStatement f) ∷ []) globals output) ≡ outcome_state (form_outcome f globals) f row.continuation n globals output
+    by : (f : SimpleForm) → settled steps_limit P (at_statement n (frame_of (OfStatement f) ∷ []) globals output) ≡ outcome_state (form_evaluation f globals) f row.continuation n globals output
     by (Assign g e) = with_sum (Assign g e) e refl refl
     by (WriteLine e w) = with_sum (WriteLine e w) e refl refl
     by Empty = value_settles 999999 P n row Empty 0 globals output h

@@ -17,13 +17,16 @@ abbrev pub operand_charge : Operand → ℕ
 operand_charge (Global g) = place_charge + 4
 operand_charge (Number n) = 4
 
+-- a second operand and the addition
 abbrev pub second_charge : Option Operand → ℕ
 second_charge None = 0
 second_charge (Some b) = operand_charge b + 16
 
+-- the operands of a sum, and their addition
 abbrev pub sum_charge : Sum → ℕ
 sum_charge s = operand_charge s.first + second_charge s.second
 
+-- a width that is given
 abbrev pub width_charge : Option ℕ → ℕ
 width_charge None = 0
 width_charge (Some w) = 4

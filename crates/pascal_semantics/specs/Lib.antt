@@ -2,6 +2,6 @@ pub mod Charge
 pub mod Program
 pub mod State
 pub mod Step
-pub mod Outcome
+pub mod Evaluations
 pub mod Run
 pub mod Valid

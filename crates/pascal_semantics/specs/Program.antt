@@ -9,11 +9,13 @@ pub data Target : Type 0 where
   Gate : (name : ℕ) → Target
   Finish : Target
 
+-- a statement: its name, its form, and where control goes after it
 pub record Row : Type 0 where
   pub name : ℕ
   pub form : SimpleForm
   pub continuation : Target
 
+-- where control goes first, and the statements
 pub record Program : Type 0 where
   pub entry : Target
   pub rows : List Row

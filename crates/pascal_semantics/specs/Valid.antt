@@ -15,17 +15,21 @@ abbrev pub IsOperand : Operand → Type 0
 IsOperand (Global g) = g < GLOBAL_WORDS
 IsOperand (Number n) = n ≤ 32767
 
+-- so is a second operand, if there is one
 abbrev pub IsSecond : Option Operand → Type 0
 IsSecond None = Unit {0}
 IsSecond (Some b) = IsOperand b
 
+-- the operands of a sum
 abbrev pub IsSum : Sum → Type 0
 IsSum e = IsOperand e.first × IsSecond e.second
 
+-- a width that is given is 1 to 255
 abbrev pub IsWidth : Option ℕ → Type 0
 IsWidth None = Unit {0}
 IsWidth (Some w) = (1 ≤ w) × (w ≤ 255)
 
+-- the parts of a form
 abbrev pub IsForm : SimpleForm → Type 0
 IsForm (Assign g e) = (g < GLOBAL_WORDS) × IsSum e
 IsForm (WriteLine e w) = IsSum e × IsWidth w

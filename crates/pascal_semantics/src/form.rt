@@ -1,7 +1,7 @@
 //! The statements that are built.
 
 /// An operand.
-#[derive(Clone, Copy, Debug, PartialEq, Eq)]
+#[derive(Clone, Copy, PartialEq, Eq)]
 pub enum Operand {
     /// The global word of this number, below 4,096.
     Global(u16),
@@ -10,14 +10,14 @@ pub enum Operand {
 }
 
 /// One operand, or the sum of two.
-#[derive(Clone, Copy, Debug, PartialEq, Eq)]
+#[derive(Clone, Copy, PartialEq, Eq)]
 pub struct Sum {
     pub first: Operand,
     pub second: Option<Operand>,
 }
 
 /// The own form of a statement, its variables resolved to global words.
-#[derive(Clone, Copy, Debug, PartialEq, Eq)]
+#[derive(Clone, Copy, PartialEq, Eq)]
 pub enum SimpleForm {
     /// The value goes to the global word of this number, below 4,096.
     Assign(u16, Sum),
@@ -28,7 +28,7 @@ pub enum SimpleForm {
 }
 
 /// A statement that has a block: its lasting name, by which replies tell it, and its form.
-#[derive(Clone, Copy, Debug, PartialEq, Eq)]
+#[derive(Clone, Copy, PartialEq, Eq)]
 pub struct Statement {
     /// No other statement of the program has it, and 1 is the program's own.
     pub name: u32,

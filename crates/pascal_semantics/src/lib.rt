@@ -7,8 +7,6 @@
 mod charges;
 mod form;
 mod limits;
-#[cfg(test)]
-mod tests;
 
 pub use charges::{PROGRAM_CHARGE, charge, code_words};
 pub use form::{Operand, SimpleForm, Statement, Sum};

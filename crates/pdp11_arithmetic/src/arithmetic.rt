@@ -2,7 +2,7 @@
 
 ghost use Rattle.std.specs.Prelude.{◌≡◌, ℕ, ◌+◌, ◌-◌, ◌*◌, ◌/◌, ◌%◌, ◌^◌, ◌<◌, ◌≤◌};
 ghost use Rattle.pdp11_arithmetic.specs.Bits.{differs};
-ghost use Rattle.pdp11_arithmetic.specs.Arithmetic.{is_negative, size, with_sign, leaves_word, product_size, product, pair_size, divided, wide_left, sign_changes, wide_right};
+ghost use Rattle.pdp11_arithmetic.specs.Arithmetic.{is_negative, magnitude, with_sign, leaves_word, product_magnitude, product, pair_magnitude, division, wide_left, sign_changes, wide_right};
 
 fn is_below_zero(word: u16) -> bool
     ensures { result ≡ is_negative word }
@@ -11,7 +11,7 @@ fn is_below_zero(word: u16) -> bool
 }
 
 fn size_of(word: u16) -> u32
-    ensures value { result ≡ size word }
+    ensures value { result ≡ magnitude word }
     ensures small { result ≤ 32768 }
 {
     if is_below_zero(word) {
@@ -41,7 +41,7 @@ pub fn product_of(a: u16, b: u16) -> u32
 
 /// Whether the product of two signed words does not fit a signed word: C of MUL.
 pub fn product_leaves_range(a: u16, b: u16) -> bool
-    ensures { result ≡ leaves_word (differs (is_negative a) (is_negative b)) (product_size a b) }
+    ensures { result ≡ leaves_word (differs (is_negative a) (is_negative b)) (product_magnitude a b) }
 {
     leaves_range(
         is_below_zero(a) != is_below_zero(b),
@@ -50,7 +50,7 @@ pub fn product_leaves_range(a: u16, b: u16) -> bool
 }
 
 fn pair_size_of(high: u16, low: u16) -> u64
-    ensures { result ≡ pair_size high low }
+    ensures { result ≡ pair_magnitude high low }
 {
     let pair = 65536 * high as u64 + low as u64;
     if is_below_zero(high) {
@@ -75,7 +75,7 @@ fn word_of(negative: bool, size: u64) -> u16
 /// towards 0, and the remainder has the sign of what is divided. None where the quotient does not fit a word.
 pub fn division_of(high: u16, low: u16, divisor: u16) -> Option<(u16, u16)>
     requires { 0 < divisor }
-    ensures { result ≡ divided high low divisor }
+    ensures { result ≡ division high low divisor }
 {
     let negative = is_below_zero(high) != is_below_zero(divisor);
     let pair = pair_size_of(high, low);

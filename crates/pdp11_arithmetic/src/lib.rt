@@ -4,8 +4,6 @@
 
 mod arithmetic;
 mod outcome;
-#[cfg(test)]
-mod tests;
 mod words;
 
 pub use arithmetic::{

@@ -3,12 +3,12 @@
 ghost use Rattle.std.specs.Prelude.{◌≡◌, ℕ, ◌+◌, ◌-◌, ◌*◌, ◌/◌, ◌%◌, ◌<◌};
 ghost use Rattle.pdp11_arithmetic.specs.Words.{whole, half};
 ghost use Rattle.pdp11_arithmetic.specs.Bits.{bit_of};
-ghost use Rattle.pdp11_arithmetic.specs.Outcome.{complement, increment, decrement, negation, carry_added, carry_subtracted, shifted, rotated_right, rotated_left, shifted_right, shifted_left, outcome_of};
+ghost use Rattle.pdp11_arithmetic.specs.Outcome.{complement, increment, decrement, negation, carry_sum, carry_difference, shift_outcome, right_rotation, left_rotation, right_shift, left_shift, outcome_of};
 
 use crate::words::{half_of, whole_of};
 
 /// A new value, and V and C; N and Z are by the value.
-#[derive(Clone, Copy, Debug, PartialEq, Eq)]
+#[derive(Clone, Copy)]
 pub struct Outcome {
     /// A word, or a byte below 256.
     pub value: u16,
@@ -66,7 +66,7 @@ fn negation(byte: bool, v: u16) -> Outcome
 
 fn add_carry(byte: bool, carry: bool, v: u16) -> Outcome
     requires { v < whole byte }
-    ensures { result ≡ carry_added byte carry v }
+    ensures { result ≡ carry_sum byte carry v }
 {
     let whole = whole_of(byte);
     Outcome {
@@ -78,7 +78,7 @@ fn add_carry(byte: bool, carry: bool, v: u16) -> Outcome
 
 fn subtract_carry(byte: bool, carry: bool, v: u16) -> Outcome
     requires { v < whole byte }
-    ensures { result ≡ carry_subtracted byte carry v }
+    ensures { result ≡ carry_difference byte carry v }
 {
     let whole = whole_of(byte);
     Outcome {
@@ -89,7 +89,7 @@ fn subtract_carry(byte: bool, carry: bool, v: u16) -> Outcome
 }
 
 fn shifted(byte: bool, value: u16, carry: bool) -> Outcome
-    ensures { result ≡ shifted byte value carry }
+    ensures { result ≡ shift_outcome byte value carry }
 {
     Outcome {
         value,
@@ -100,7 +100,7 @@ fn shifted(byte: bool, value: u16, carry: bool) -> Outcome
 
 fn rotate_right(byte: bool, carry: bool, v: u16) -> Outcome
     requires { v < whole byte }
-    ensures { result ≡ rotated_right byte carry v }
+    ensures { result ≡ right_rotation byte carry v }
 {
     let top = if carry { half_of(byte) } else { 0 };
     shifted(byte, v / 2 + top, v % 2 == 1)
@@ -108,7 +108,7 @@ fn rotate_right(byte: bool, carry: bool, v: u16) -> Outcome
 
 fn rotate_left(byte: bool, carry: bool, v: u16) -> Outcome
     requires { v < whole byte }
-    ensures { result ≡ rotated_left byte carry v }
+    ensures { result ≡ left_rotation byte carry v }
 {
     let value = (2 * v as u32 + carry_bit(carry)) % whole_of(byte);
     shifted(byte, value as u16, v >= half_of(byte))
@@ -116,7 +116,7 @@ fn rotate_left(byte: bool, carry: bool, v: u16) -> Outcome
 
 fn shift_right(byte: bool, v: u16) -> Outcome
     requires { v < whole byte }
-    ensures { result ≡ shifted_right byte v }
+    ensures { result ≡ right_shift byte v }
 {
     let half = half_of(byte);
     let top = if v >= half { half } else { 0 };
@@ -125,7 +125,7 @@ fn shift_right(byte: bool, v: u16) -> Outcome
 
 fn shift_left(byte: bool, v: u16) -> Outcome
     requires { v < whole byte }
-    ensures { result ≡ shifted_left byte v }
+    ensures { result ≡ left_shift byte v }
 {
     let value = 2 * v as u32 % whole_of(byte);
     shifted(byte, value as u16, v >= half_of(byte))

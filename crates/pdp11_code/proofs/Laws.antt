@@ -13,7 +13,7 @@ use Rattle.pdp11_code.specs.declared.table.Shape.{Shape}
 use Rattle.pdp11_code.specs.declared.table.Shape.TheVariants.{DoubleOperand, SingleOperand, RegisterOperand, JumpToSubroutine, ReturnFromSubroutine, SubtractOneAndBranch, BranchOffset, EmulatorTrap, ProgramTrap, ConditionCodes, NoOperand}
 use Rattle.pdp11_code.specs.declared.table.Row.{Row}
 use Rattle.pdp11_code.specs.declared.table.TheConstants.{ROWS}
-use Rattle.pdp11_code.specs.Code.{is_in, shape_at, wants_next, ea_at, read_as, decoded}
+use Rattle.pdp11_code.specs.Code.{is_in, shape_at, wants_next, ea_at, read_as, instruction_at}
 use Rattle.pdp11_code.specs.Write.{high_bit, field_of, first_word, IsEa, IsInstr}
 
 -- the fields of a word of two operands make up the word
@@ -170,7 +170,7 @@ pub listed_part : (w : ℕ) (o : Option (Instr × ℕ)) → IsListed w o → IfS
 listed_part w None h = tt
 listed_part w (Some read) h = h.0
 
-pub first_listed : (w : ℕ) (rest : List ℕ) → w < 65536 → IsListed w (decoded (w ∷ rest))
+pub first_listed : (w : ℕ) (rest : List ℕ) → w < 65536 → IsListed w (instruction_at (w ∷ rest))
 first_listed w rest lt = listed_by w rest lt (shape_at w) refl
   where
     listed_by : (w : ℕ) (rest : List ℕ) → w < 65536 → (o : Option Shape) → shape_at w ≡ o → IsListed w (option_and_then (λ shape. read_as shape w (w ∷ rest)) o)
@@ -178,6 +178,6 @@ first_listed w rest lt = listed_by w rest lt (shape_at w) refl
     listed_by w rest lt (Some s) e = read_listed s w (w ∷ rest) lt e
 
 -- what is read is an instruction of the table
-pub decoded_listed : (words : List ℕ) → ((i : ℕ) → get_or words i 0 < 65536) → IfSome (decoded words) (λ read. IsInstr read.0)
+pub decoded_listed : (words : List ℕ) → ((i : ℕ) → get_or words i 0 < 65536) → IfSome (instruction_at words) (λ read. IsInstr read.0)
 decoded_listed [] fits = tt
-decoded_listed (w ∷ rest) fits = listed_part w (decoded (w ∷ rest)) (first_listed w rest (fits 0))
+decoded_listed (w ∷ rest) fits = listed_part w (instruction_at (w ∷ rest)) (first_listed w rest (fits 0))

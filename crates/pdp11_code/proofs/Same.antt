@@ -7,16 +7,16 @@ use Rattle.pdp11_code.specs.declared.instr.Instr.{Instr}
 use Rattle.pdp11_code.specs.declared.instr.Instr.TheVariants.{Two, Extended, One, Jsr}
 use Rattle.pdp11_code.specs.declared.table.Shape.{Shape}
 use Rattle.pdp11_code.specs.declared.table.Shape.TheVariants.{DoubleOperand, SingleOperand, RegisterOperand, JumpToSubroutine, ReturnFromSubroutine, SubtractOneAndBranch, BranchOffset, EmulatorTrap, ProgramTrap, ConditionCodes, NoOperand}
-use Rattle.pdp11_code.specs.Code.{shape_at, wants_next, read_as, decoded}
-use Rattle.pdp11_code.specs.Write.{next_words, following, encoded}
+use Rattle.pdp11_code.specs.Code.{shape_at, wants_next, read_as, instruction_at}
+use Rattle.pdp11_code.specs.Write.{next_words, following_words, words_of}
 use Rattle.pdp11_code.proofs.Laws.{IsListed, first_listed}
 
 -- the words behind the first are those that were read there
 abbrev IsFollowed : ℕ → List ℕ → Instr × ℕ → Type 0
-IsFollowed w rest read = (read.1 ≡ suc (length (following read.0))) × (w ∷ following read.0 ≡ take read.1 (w ∷ rest))
+IsFollowed w rest read = (read.1 ≡ suc (length (following_words read.0))) × (w ∷ following_words read.0 ≡ take read.1 (w ∷ rest))
 
 -- an instruction of one operand, whatever else it says
-one_followed : (w : ℕ) (rest : List ℕ) (mode register : ℕ) (make : Ea → Instr) → ((e : Ea) → following (make e) ≡ next_words e.next) → (b : Bool) → IfSome (option_map (λ (d : Ea × ℕ). (make d.0, d.1)) (if b then option_map (λ next. (record { mode = mode; register = register; next = Some next }, 2)) (slice_get (w ∷ rest) 1) else Some (record { mode = mode; register = register; next = None }, 1))) (IsFollowed w rest)
+one_followed : (w : ℕ) (rest : List ℕ) (mode register : ℕ) (make : Ea → Instr) → ((e : Ea) → following_words (make e) ≡ next_words e.next) → (b : Bool) → IfSome (option_map (λ (d : Ea × ℕ). (make d.0, d.1)) (if b then option_map (λ next. (record { mode = mode; register = register; next = Some next }, 2)) (slice_get (w ∷ rest) 1) else Some (record { mode = mode; register = register; next = None }, 1))) (IsFollowed w rest)
 one_followed w [] mode register make same true = tt
 one_followed w (x ∷ rest) mode register make same true = rw (same (record { mode = mode; register = register; next = Some x })) (refl, refl)
 one_followed w rest mode register make same false = rw (same (record { mode = mode; register = register; next = None })) (refl, refl)
@@ -44,27 +44,27 @@ read_followed ProgramTrap w rest = (refl, refl)
 read_followed ConditionCodes w rest = (refl, refl)
 read_followed NoOperand w rest = (refl, refl)
 
-first_followed : (w : ℕ) (rest : List ℕ) → IfSome (decoded (w ∷ rest)) (IsFollowed w rest)
+first_followed : (w : ℕ) (rest : List ℕ) → IfSome (instruction_at (w ∷ rest)) (IsFollowed w rest)
 first_followed w rest = followed_by w rest (shape_at w)
   where
     followed_by : (w : ℕ) (rest : List ℕ) (o : Option Shape) → IfSome (option_and_then (λ shape. read_as shape w (w ∷ rest)) o) (IsFollowed w rest)
     followed_by w rest None = tt
     followed_by w rest (Some s) = read_followed s w rest
 
-same_by : (w : ℕ) (rest : List ℕ) (o : Option (Instr × ℕ)) → IsListed w o → IfSome o (IsFollowed w rest) → IfSome o (λ read. encoded read.0 ≡ take read.1 (w ∷ rest))
+same_by : (w : ℕ) (rest : List ℕ) (o : Option (Instr × ℕ)) → IsListed w o → IfSome o (IsFollowed w rest) → IfSome o (λ read. words_of read.0 ≡ take read.1 (w ∷ rest))
 same_by w rest None h k = tt
-same_by w rest (Some read) h k = ap (λ x. x ∷ following read.0) h.1 ∙ k.1
+same_by w rest (Some read) h k = ap (λ x. x ∷ following_words read.0) h.1 ∙ k.1
 
-count_by : (w : ℕ) (rest : List ℕ) (o : Option (Instr × ℕ)) → IfSome o (IsFollowed w rest) → IfSome o (λ read. read.1 ≡ length (encoded read.0))
+count_by : (w : ℕ) (rest : List ℕ) (o : Option (Instr × ℕ)) → IfSome o (IsFollowed w rest) → IfSome o (λ read. read.1 ≡ length (words_of read.0))
 count_by w rest None k = tt
 count_by w rest (Some read) k = k.0
 
 -- what is read is written as the words that were read
-pub decoded_same : (words : List ℕ) → ((i : ℕ) → get_or words i 0 < 65536) → IfSome (decoded words) (λ read. encoded read.0 ≡ take read.1 words)
+pub decoded_same : (words : List ℕ) → ((i : ℕ) → get_or words i 0 < 65536) → IfSome (instruction_at words) (λ read. words_of read.0 ≡ take read.1 words)
 decoded_same [] fits = tt
-decoded_same (w ∷ rest) fits = same_by w rest (decoded (w ∷ rest)) (first_listed w rest (fits 0)) (first_followed w rest)
+decoded_same (w ∷ rest) fits = same_by w rest (instruction_at (w ∷ rest)) (first_listed w rest (fits 0)) (first_followed w rest)
 
 -- the number that is read counts the words
-pub decoded_number : (words : List ℕ) → IfSome (decoded words) (λ read. read.1 ≡ length (encoded read.0))
+pub decoded_number : (words : List ℕ) → IfSome (instruction_at words) (λ read. read.1 ≡ length (words_of read.0))
 decoded_number [] = tt
-decoded_number (w ∷ rest) = count_by w rest (decoded (w ∷ rest)) (first_followed w rest)
+decoded_number (w ∷ rest) = count_by w rest (instruction_at (w ∷ rest)) (first_followed w rest)

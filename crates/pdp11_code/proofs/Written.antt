@@ -7,8 +7,8 @@ use Rattle.pdp11_code.specs.declared.instr.Instr.{Instr}
 use Rattle.pdp11_code.specs.declared.instr.Instr.TheVariants.{Two, Extended, One, Jsr, Rts, Sob, Branch, Emt, Trap, Flags, Bare}
 use Rattle.pdp11_code.specs.declared.table.Shape.TheVariants.{DoubleOperand, NoOperand}
 use Rattle.pdp11_code.proofs.Laws.{shape_within}
-use Rattle.pdp11_code.specs.Code.{wants_next, ea_at, read_as, decoded}
-use Rattle.pdp11_code.specs.Write.{high_bit, next_words, encoded, IsEa, IsInstr}
+use Rattle.pdp11_code.specs.Code.{wants_next, ea_at, read_as, instruction_at}
+use Rattle.pdp11_code.specs.Write.{high_bit, next_words, words_of, IsEa, IsInstr}
 
 -- an operand is read again from its field and its word
 ea_again : (words : List ℕ) (at field mode register : ℕ) (next : Option ℕ) → is_some next ≡ wants_next mode register → field / 8 % 8 ≡ mode → field % 8 ≡ register → ((w : ℕ) → next ≡ Some w → slice_get words at ≡ Some w) → ea_at words at field ≡ Some (record { mode = mode; register = register; next = next }, at + length (next_words next))
@@ -74,7 +74,7 @@ flag_low true bits h = omega arith
 flag_low false bits h = omega arith
 
 -- what is written is read again
-pub read_again : (i : Instr) (rest : List ℕ) → IsInstr i → decoded (encoded i ++ rest) ≡ Some (i, length (encoded i))
+pub read_again : (i : Instr) (rest : List ℕ) → IsInstr i → instruction_at (words_of i ++ rest) ≡ Some (i, length (words_of i))
 read_again (Two op high s d) rest h =
     let len : 1 + length (next_words s.next) + length (next_words d.next) ≡ suc (length (next_words s.next ++ next_words d.next)) = omega (arith, length-append (next_words s.next) (next_words d.next)) in
     rw h.3 (pair_again op s.mode s.register d.mode d.register high s.next d.next rest h.0 h.1 h.2 ∙ ap (λ n. Some (Two op high s d, n)) len)

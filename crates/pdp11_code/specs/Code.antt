@@ -21,32 +21,39 @@ is_in word row = nat_le row.first word && nat_lt (word - row.first) row.count
 abbrev pub shape_at : ℕ → Option Shape
 shape_at word = option_map (λ row. row.shape) (find (is_in word) ROWS)
 
--- a word follows the operand
+-- a word follows the operand: an index, or an immediate operand or an absolute address, which PC steps over
 abbrev pub wants_next : ℕ → ℕ → Bool
 wants_next mode register = nat_le 6 mode || (nat_eq register 7 && (nat_eq mode 2 || nat_eq mode 3))
 
 -- the operand in the six low bits of the field, its word at this index, and the index after it
 abbrev pub ea_at : List ℕ → ℕ → ℕ → Option (Ea × ℕ)
 ea_at words at field =
-    if wants_next (field / 8 % 8) (field % 8) then option_map (λ next. (record { mode = field / 8 % 8; register = field % 8; next = Some next }, at + 1)) (slice_get words at)
-    else Some (record { mode = field / 8 % 8; register = field % 8; next = None }, at)
+    let mode = field / 0o10 % 8 in
+    let register = field % 8 in
+    if wants_next mode register
+    then option_map (λ next. (record { mode = mode; register = register; next = Some next }, at + 1)) (slice_get words at)
+    else Some (record { mode = mode; register = register; next = None }, at)
 
 -- the instruction of this shape that begins with the word, and how many words it has
 abbrev pub read_as : Shape → ℕ → List ℕ → Option (Instr × ℕ)
 read_as DoubleOperand word words =
-    option_and_then (λ s. option_map (λ d. (Two (word / 4096 % 8) (nat_le 32768 word) s.0 d.0, d.1)) (ea_at words s.1 word)) (ea_at words 1 (word / 64))
-read_as SingleOperand word words = option_map (λ d. (One (word / 64 % 256) (nat_le 32768 word) d.0, d.1)) (ea_at words 1 word)
-read_as RegisterOperand word words = option_map (λ d. (Extended (word / 512 % 8) (word / 64 % 8) d.0, d.1)) (ea_at words 1 word)
-read_as JumpToSubroutine word words = option_map (λ d. (Jsr (word / 64 % 8) d.0, d.1)) (ea_at words 1 word)
+    option_and_then (λ s.
+      option_map (λ d. (Two (word / 0o10000 % 8) (nat_le 0o100000 word) s.0 d.0, d.1)) (ea_at words s.1 word))
+      (ea_at words 1 (word / 0o100))
+read_as SingleOperand word words =
+    option_map (λ d. (One (word / 0o100 % 0o400) (nat_le 0o100000 word) d.0, d.1)) (ea_at words 1 word)
+read_as RegisterOperand word words =
+    option_map (λ d. (Extended (word / 0o1000 % 8) (word / 0o100 % 8) d.0, d.1)) (ea_at words 1 word)
+read_as JumpToSubroutine word words = option_map (λ d. (Jsr (word / 0o100 % 8) d.0, d.1)) (ea_at words 1 word)
 read_as ReturnFromSubroutine word words = Some (Rts (word % 8), 1)
-read_as SubtractOneAndBranch word words = Some (Sob (word / 64 % 8) (word % 64), 1)
-read_as BranchOffset word words = Some (Branch (word / 256) (word % 256), 1)
-read_as EmulatorTrap word words = Some (Emt (word % 256), 1)
-read_as ProgramTrap word words = Some (Trap (word % 256), 1)
-read_as ConditionCodes word words = Some (Flags (nat_eq (word / 16 % 2) 1) (word % 16), 1)
-read_as NoOperand word words = Some (Bare (word % 256), 1)
+read_as SubtractOneAndBranch word words = Some (Sob (word / 0o100 % 8) (word % 0o100), 1)
+read_as BranchOffset word words = Some (Branch (word / 0o400) (word % 0o400), 1)
+read_as EmulatorTrap word words = Some (Emt (word % 0o400), 1)
+read_as ProgramTrap word words = Some (Trap (word % 0o400), 1)
+read_as ConditionCodes word words = Some (Flags (nat_eq (word / 0o20 % 2) 1) (word % 0o20), 1)
+read_as NoOperand word words = Some (Bare (word % 0o400), 1)
 
--- the instruction that begins the words
-abbrev pub decoded : List ℕ → Option (Instr × ℕ)
-decoded [] = None
-decoded (word ∷ rest) = option_and_then (λ shape. read_as shape word (word ∷ rest)) (shape_at word)
+-- the instruction that begins the words, and how many of them it has
+abbrev pub instruction_at : List ℕ → Option (Instr × ℕ)
+instruction_at [] = None
+instruction_at (word ∷ rest) = option_and_then (λ shape. read_as shape word (word ∷ rest)) (shape_at word)

@@ -2,7 +2,7 @@
 
 /// An operand: its mode and register (0 to 7 each), and the word that follows the instruction for it.
 /// That word is there exactly where the mode is 6 or 7, or the register is 7 and the mode 2 or 3.
-#[derive(Clone, Copy, Debug, PartialEq, Eq)]
+#[derive(Clone, Copy)]
 pub struct Ea {
     pub mode: u8,
     pub register: u8,
@@ -10,7 +10,7 @@ pub struct Ea {
 }
 
 /// One instruction, by the fields of its first word.
-#[derive(Clone, Copy, Debug, PartialEq, Eq)]
+#[derive(Clone, Copy)]
 pub enum Instr {
     /// Bits 12 to 14, whether bit 15 is set, source, destination: MOV, CMP, ADD and their like.
     Two(u8, bool, Ea, Ea),

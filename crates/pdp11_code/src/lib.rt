@@ -11,5 +11,3 @@ pub use reading::decode;
 pub use table::{ROWS, Row, Shape};
 pub use writing::encode;
 
-#[cfg(test)]
-mod tests;

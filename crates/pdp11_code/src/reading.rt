@@ -1,8 +1,8 @@
 //! Instructions read from words.
 
 ghost use Rattle.std.specs.Prelude.{◌≡◌, ℕ, ◌<◌, ◌≤◌, ◌/◌, List, length, take, IfSome};
-ghost use Rattle.pdp11_code.specs.Code.{shape_at, wants_next, ea_at, read_as, decoded};
-ghost use Rattle.pdp11_code.specs.Write.{IsInstr, encoded};
+ghost use Rattle.pdp11_code.specs.Code.{shape_at, wants_next, ea_at, read_as, instruction_at};
+ghost use Rattle.pdp11_code.specs.Write.{IsInstr, words_of};
 
 use crate::instr::{Ea, Instr};
 use crate::table::Shape;
@@ -10,16 +10,16 @@ use crate::table::Shape;
 /// The instruction that begins the words, and the number of its words, 1 to 3. None exactly where no instruction
 /// of the table begins there, or its words end early.
 pub fn decode(words: &[u16]) -> Option<(Instr, usize)>
-    ensures reads { result ≡ decoded words.now }
+    ensures reads { result ≡ instruction_at words.now }
     ensures listed { IfSome result (λ read. IsInstr read.0) }
-    ensures number { IfSome result (λ read. read.1 ≡ length (encoded read.0)) }
-    ensures written { IfSome result (λ read. encoded read.0 ≡ take read.1 words.now) }
+    ensures number { IfSome result (λ read. read.1 ≡ length (words_of read.0)) }
+    ensures written { IfSome result (λ read. words_of read.0 ≡ take read.1 words.now) }
 {
     instruction(words)
 }
 
 fn instruction(words: &[u16]) -> Option<(Instr, usize)>
-    ensures { result ≡ decoded words.now }
+    ensures { result ≡ instruction_at words.now }
 {
     let word = *words.first()?;
     match shape_of(word)? {
@@ -29,13 +29,13 @@ fn instruction(words: &[u16]) -> Option<(Instr, usize)>
         Shape::JumpToSubroutine => jump_to_subroutine(word, words),
         Shape::ReturnFromSubroutine => Some((Instr::Rts((word % 8) as u8), 1)),
         Shape::SubtractOneAndBranch => {
-            Some((Instr::Sob((word / 64 % 8) as u8, (word % 64) as u8), 1))
+            Some((Instr::Sob((word / 0o100 % 8) as u8, (word % 0o100) as u8), 1))
         }
-        Shape::BranchOffset => Some((Instr::Branch((word / 256) as u8, (word % 256) as u8), 1)),
-        Shape::EmulatorTrap => Some((Instr::Emt((word % 256) as u8), 1)),
-        Shape::ProgramTrap => Some((Instr::Trap((word % 256) as u8), 1)),
-        Shape::ConditionCodes => Some((Instr::Flags(word / 16 % 2 == 1, (word % 16) as u8), 1)),
-        Shape::NoOperand => Some((Instr::Bare((word % 256) as u8), 1)),
+        Shape::BranchOffset => Some((Instr::Branch((word / 0o400) as u8, (word % 0o400) as u8), 1)),
+        Shape::EmulatorTrap => Some((Instr::Emt((word % 0o400) as u8), 1)),
+        Shape::ProgramTrap => Some((Instr::Trap((word % 0o400) as u8), 1)),
+        Shape::ConditionCodes => Some((Instr::Flags(word / 0o20 % 2 == 1, (word % 0o20) as u8), 1)),
+        Shape::NoOperand => Some((Instr::Bare((word % 0o400) as u8), 1)),
     }
 }
 
@@ -47,14 +47,14 @@ fn shape_of(word: u16) -> Option<Shape>
         0 => low_shape(word),
         1..=6 => Some(Shape::DoubleOperand),
         7 => register_shape(word),
-        8 => high_shape(word),
-        9..=14 => Some(Shape::DoubleOperand),
+        0o10 => high_shape(word),
+        0o11..=0o16 => Some(Shape::DoubleOperand),
         _ => None,
     }
 }
 
 fn low_shape(word: u16) -> Option<Shape>
-    requires { word < 4096 }
+    requires { word < 0o10000 }
     ensures { result ≡ shape_at word }
 {
     match word / 0o100 {
@@ -75,7 +75,7 @@ fn low_shape(word: u16) -> Option<Shape>
 }
 
 fn bare_shape(word: u16) -> Option<Shape>
-    requires { word < 64 }
+    requires { word < 0o100 }
     ensures { result ≡ shape_at word }
 {
     match word {
@@ -87,7 +87,7 @@ fn bare_shape(word: u16) -> Option<Shape>
 }
 
 fn return_shape(word: u16) -> Option<Shape>
-    requires { word / 64 ≡ 2 }
+    requires { word / 0o100 ≡ 0o2 }
     ensures { result ≡ shape_at word }
 {
     match word / 0o10 {
@@ -98,7 +98,7 @@ fn return_shape(word: u16) -> Option<Shape>
 }
 
 fn call_shape(word: u16) -> Option<Shape>
-    requires { word / 512 ≡ 4 }
+    requires { word / 0o1000 ≡ 0o4 }
     ensures { result ≡ shape_at word }
 {
     if word / 0o10 % 8 == 0 {
@@ -109,7 +109,7 @@ fn call_shape(word: u16) -> Option<Shape>
 }
 
 fn register_shape(word: u16) -> Option<Shape>
-    requires { word / 4096 ≡ 7 }
+    requires { word / 0o10000 ≡ 0o7 }
     ensures { result ≡ shape_at word }
 {
     match word / 0o1000 {
@@ -123,7 +123,7 @@ fn register_shape(word: u16) -> Option<Shape>
 }
 
 fn division_shape(word: u16) -> Option<Shape>
-    requires { word / 512 ≡ 57 }
+    requires { word / 0o1000 ≡ 0o71 }
     ensures { result ≡ shape_at word }
 {
     if word / 0o100 % 2 == 0 {
@@ -134,7 +134,7 @@ fn division_shape(word: u16) -> Option<Shape>
 }
 
 fn high_shape(word: u16) -> Option<Shape>
-    requires { word / 4096 ≡ 8 }
+    requires { word / 0o10000 ≡ 0o10 }
     ensures { result ≡ shape_at word }
 {
     match word / 0o400 {
@@ -157,7 +157,7 @@ fn operand(words: &[u16], at: usize, field: u16) -> Option<(Ea, usize)>
     requires { at < 4 }
     ensures { result ≡ ea_at words.now at field }
 {
-    let mode = (field / 8 % 8) as u8;
+    let mode = (field / 0o10 % 8) as u8;
     let register = (field % 8) as u8;
     if takes_next(mode, register) {
         let next = *words.get(at)?;
@@ -184,10 +184,10 @@ fn operand(words: &[u16], at: usize, field: u16) -> Option<(Ea, usize)>
 fn double_operand(word: u16, words: &[u16]) -> Option<(Instr, usize)>
     ensures { result ≡ read_as Shape.DoubleOperand word words.now }
 {
-    let (source, at) = operand(words, 1, word / 64)?;
+    let (source, at) = operand(words, 1, word / 0o100)?;
     let (target, end) = operand(words, at, word)?;
     Some((
-        Instr::Two((word / 4096 % 8) as u8, word >= 32768, source, target),
+        Instr::Two((word / 0o10000 % 8) as u8, word >= 0o100000, source, target),
         end,
     ))
 }
@@ -197,7 +197,7 @@ fn single_operand(word: u16, words: &[u16]) -> Option<(Instr, usize)>
 {
     let (target, end) = operand(words, 1, word)?;
     Some((
-        Instr::One((word / 64 % 256) as u8, word >= 32768, target),
+        Instr::One((word / 0o100 % 0o400) as u8, word >= 0o100000, target),
         end,
     ))
 }
@@ -207,7 +207,7 @@ fn register_operand(word: u16, words: &[u16]) -> Option<(Instr, usize)>
 {
     let (source, end) = operand(words, 1, word)?;
     Some((
-        Instr::Extended((word / 512 % 8) as u8, (word / 64 % 8) as u8, source),
+        Instr::Extended((word / 0o1000 % 8) as u8, (word / 0o100 % 8) as u8, source),
         end,
     ))
 }
@@ -216,5 +216,5 @@ fn jump_to_subroutine(word: u16, words: &[u16]) -> Option<(Instr, usize)>
     ensures { result ≡ read_as Shape.JumpToSubroutine word words.now }
 {
     let (target, end) = operand(words, 1, word)?;
-    Some((Instr::Jsr((word / 64 % 8) as u8, target), end))
+    Some((Instr::Jsr((word / 0o100 % 8) as u8, target), end))
 }

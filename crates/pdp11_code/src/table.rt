@@ -1,7 +1,6 @@
 //! The table of the instructions.
 
 /// How the fields of a first word lie.
-#[derive(Clone, Copy, Debug, PartialEq, Eq)]
 pub enum Shape {
     DoubleOperand,
     SingleOperand,
@@ -17,7 +16,6 @@ pub enum Shape {
 }
 
 /// A run of first words that are read in one way: `count` words from `first` on.
-#[derive(Clone, Copy, Debug)]
 pub struct Row {
     pub first: u16,
     pub count: u16,

@@ -6,72 +6,89 @@ use Rattle.std.specs.Prelude.{ℕ, ◌+◌, ◌-◌, ◌%◌, Bool, true, false,
 use Rattle.pdp11_code.specs.declared.instr.Ea.{Ea}
 use Rattle.pdp11_machine.specs.declared.Place.{Place}
 use Rattle.pdp11_machine.specs.declared.Place.TheVariants.{Register}
-use Rattle.pdp11_machine.specs.State.{State, with_reg}
-use Rattle.pdp11_machine.specs.Operands.{and_then, placed, loaded, loaded_by, stored, stored_by, with_flags}
+use Rattle.pdp11_machine.specs.State.{MachineState, with_reg}
+use Rattle.pdp11_machine.specs.Operands.{and_then, operand_place, word_in, value_in, after_store, after_value_store, with_flags}
 use Rattle.pdp11_machine.specs.Words.{flags_of, flags_by}
 use Rattle.pdp11_arithmetic.specs.Bits.{not}
 use Rattle.pdp11_arithmetic.specs.Words.{sum_overflows, difference, difference_leaves}
 
 -- a byte as a word of the same signed value
-abbrev pub extended : ℕ → ℕ
-extended byte = if nat_le 128 byte then 65280 + byte else byte
+abbrev pub sign_extension : ℕ → ℕ
+sign_extension byte = if nat_le 0o200 byte then 0o177400 + byte else byte
 
--- a byte goes into a register with its sign extended
-abbrev pub stored_moved : Bool → State → Place → ℕ → State × Option Unit
-stored_moved true s (Register r) value = (with_reg s r (extended value), Some tt)
-stored_moved byte s target value = stored_by byte s target value
+-- a byte is moved into a register with its sign extended, as MOVB alone does
+abbrev pub after_move_store : Bool → MachineState → Place → ℕ → MachineState × Option Unit
+after_move_store true s (Register r) value = (with_reg s r (sign_extension value), Some tt)
+after_move_store byte s target value = after_value_store byte s target value
 
--- MOV, MOVB
-abbrev pub moved : Bool → State → ℕ → Place → State × Option Unit
-moved byte s value target = with_flags (flags_by byte value false s.flags.carry) (stored_moved byte s target value)
+-- MOV, MOVB: C stays
+abbrev pub after_move : Bool → MachineState → ℕ → Place → MachineState × Option Unit
+after_move byte s value target =
+    with_flags (flags_by byte value false s.flags.carry) (after_move_store byte s target value)
 
--- CMP, CMPB: source minus destination
-abbrev pub compared : Bool → State → ℕ → Place → State × Option Unit
-compared byte s value target =
-    and_then (s, loaded_by byte s target) (λ t old. (record t { flags = flags_by byte (difference byte value old) (difference_leaves byte value old) (nat_lt value old) }, Some tt))
+-- CMP, CMPB: source minus destination; C is the borrow
+abbrev pub after_compare : Bool → MachineState → ℕ → Place → MachineState × Option Unit
+after_compare byte s value target =
+    and_then (s, value_in byte s target) (λ t old. (record t {
+      flags = flags_by byte (difference byte value old) (difference_leaves byte value old) (nat_lt value old);
+    }, Some tt))
 
--- BIT, BITB
-abbrev pub bits_tested : Bool → State → ℕ → Place → State × Option Unit
-bits_tested byte s value target =
-    and_then (s, loaded_by byte s target) (λ t old. (record t { flags = flags_by byte (bit_and value old) false t.flags.carry }, Some tt))
+-- BIT, BITB: C stays
+abbrev pub after_bit_test : Bool → MachineState → ℕ → Place → MachineState × Option Unit
+after_bit_test byte s value target =
+    and_then (s, value_in byte s target) (λ t old. (record t {
+      flags = flags_by byte (bit_and value old) false t.flags.carry;
+    }, Some tt))
 
--- an operand becomes this, as the result of a logical instruction
-abbrev pub logic_stored : Bool → State → Place → ℕ → State × Option Unit
-logic_stored byte s target value = with_flags (flags_by byte value false s.flags.carry) (stored_by byte s target value)
+-- an operand becomes this, as the result of a logical instruction: V is cleared, and C stays
+abbrev pub after_logic_store : Bool → MachineState → Place → ℕ → MachineState × Option Unit
+after_logic_store byte s target value =
+    with_flags (flags_by byte value false s.flags.carry) (after_value_store byte s target value)
 
 -- BIC, BICB
-abbrev pub bits_cleared : Bool → State → ℕ → Place → State × Option Unit
-bits_cleared byte s value target = and_then (s, loaded_by byte s target) (λ t old. logic_stored byte t target (bit_and old (65535 - value)))
+abbrev pub after_bit_clear : Bool → MachineState → ℕ → Place → MachineState × Option Unit
+after_bit_clear byte s value target =
+    and_then (s, value_in byte s target) (λ t old. after_logic_store byte t target (bit_and old (65535 - value)))
 
 -- BIS, BISB
-abbrev pub bits_set : Bool → State → ℕ → Place → State × Option Unit
-bits_set byte s value target = and_then (s, loaded_by byte s target) (λ t old. logic_stored byte t target (bit_or old value))
+abbrev pub after_bit_set : Bool → MachineState → ℕ → Place → MachineState × Option Unit
+after_bit_set byte s value target =
+    and_then (s, value_in byte s target) (λ t old. after_logic_store byte t target (bit_or old value))
 
--- ADD
-abbrev pub added : State → ℕ → Place → State × Option Unit
-added s word target =
-    and_then (s, loaded s target) (λ t old. with_flags (flags_of ((old + word) % 65536) (sum_overflows old word) (nat_le 65536 (old + word))) (stored t target ((old + word) % 65536)))
+-- ADD: C is the carry out of bit 15
+abbrev pub after_add : MachineState → ℕ → Place → MachineState × Option Unit
+after_add s word target =
+    and_then (s, word_in s target) (λ t old.
+      with_flags (flags_of ((old + word) % 65536) (sum_overflows old word) (nat_le 65536 (old + word)))
+        (after_store t target ((old + word) % 65536)))
 
--- SUB: destination minus source
-abbrev pub subtracted : State → ℕ → Place → State × Option Unit
-subtracted s word target =
-    and_then (s, loaded s target) (λ t old. with_flags (flags_of (difference false old word) (difference_leaves false old word) (nat_lt old word)) (stored t target (difference false old word)))
+-- SUB: destination minus source; C is the borrow
+abbrev pub after_subtract : MachineState → ℕ → Place → MachineState × Option Unit
+after_subtract s word target =
+    and_then (s, word_in s target) (λ t old.
+      with_flags (flags_of (difference false old word) (difference_leaves false old word) (nat_lt old word))
+        (after_store t target (difference false old word)))
 
--- what an instruction of two operands does with its source's value and its destination
-abbrev pub combined : ℕ → Bool → State → ℕ → Place → State × Option Unit
-combined op high s value target =
-    if nat_eq op 1 then moved high s value target
-    else (if nat_eq op 2 then compared high s value target
-    else (if nat_eq op 3 then bits_tested high s value target
-    else (if nat_eq op 4 then bits_cleared high s value target
-    else (if nat_eq op 5 then bits_set high s value target
-    else (if high then subtracted s value target else added s value target)))))
+-- what an instruction does with its source's value and its destination, by bits 12 to 14 and bit 15
+abbrev pub after_operation : ℕ → Bool → MachineState → ℕ → Place → MachineState × Option Unit
+after_operation op high s value target =
+    if nat_eq op 0o1 then after_move high s value target              -- MOV, MOVB
+    else (if nat_eq op 0o2 then after_compare high s value target     -- CMP, CMPB
+    else (if nat_eq op 0o3 then after_bit_test high s value target    -- BIT, BITB
+    else (if nat_eq op 0o4 then after_bit_clear high s value target   -- BIC, BICB
+    else (if nat_eq op 0o5 then after_bit_set high s value target     -- BIS, BISB
+    else (if high then after_subtract s value target                  -- SUB
+    else after_add s value target)))))                                -- ADD
 
 -- bit 15 says that the operands are bytes; but ADD and SUB, which it tells apart, have words
 abbrev pub is_byte : ℕ → Bool → Bool
-is_byte op high = high && not (nat_eq op 6)
+is_byte op high = high && not (nat_eq op 0o6)
 
-abbrev pub two_done : ℕ → Bool → Ea → Ea → State → State × Option Unit
-two_done op high source target s =
+-- an instruction of two operands
+abbrev pub after_double_operand : ℕ → Bool → Ea → Ea → MachineState → MachineState × Option Unit
+after_double_operand op high source target s =
     let byte = is_byte op high in
-    and_then (placed byte source.mode source.register s) (λ s1 p. and_then (s1, loaded_by byte s1 p) (λ s2 value. and_then (placed byte target.mode target.register s2) (λ s3 q. combined op high s3 value q)))
+    and_then (operand_place byte source.mode source.register s) (λ s1 p.
+    and_then (s1, value_in byte s1 p) (λ s2 value.
+    and_then (operand_place byte target.mode target.register s2) (λ s3 q.
+    after_operation op high s3 value q)))

@@ -1,8 +1,8 @@
 //! Branches, condition codes, subroutines and returns from traps.
 
 ghost use Rattle.std.specs.Prelude.{◌≡◌, ℕ, ◌+◌, ◌*◌, ◌%◌, ◌<◌, if◌then◌else◌, Some, None};
-ghost use Rattle.pdp11_machine.specs.State.{State};
-ghost use Rattle.pdp11_machine.specs.Control.{is_taken, branched, with_codes, pushed, popped, called, returned, resumed, counted};
+ghost use Rattle.pdp11_machine.specs.State.{MachineState};
+ghost use Rattle.pdp11_machine.specs.Control.{is_taken, after_branch, with_codes, after_push, after_pop, after_call, after_return, after_resume, after_count_down};
 
 use crate::Machine;
 use pdp11_code::Ea;
@@ -13,13 +13,13 @@ impl Machine {
     {
         let less = self.negative != self.overflow;
         match high {
-            1 => true,
-            2 => !self.zero,
-            3 => self.zero,
-            4 => !less,
-            5 => less,
-            6 => !(self.zero || less),
-            7 => self.zero || less,
+            0o001 => true,
+            0o002 => !self.zero,
+            0o003 => self.zero,
+            0o004 => !less,
+            0o005 => less,
+            0o006 => !(self.zero || less),
+            0o007 => self.zero || less,
             0o200 => !self.negative,
             0o201 => self.negative,
             0o202 => !(self.carry || self.zero),
@@ -32,10 +32,10 @@ impl Machine {
     }
 
     pub(crate) fn branch(&mut self, high: u8, low: u8)
-        ensures { self.new ≡ (if is_taken high self.old.flags then branched low self.old else self.old) }
+        ensures { self.new ≡ (if is_taken high self.old.flags then after_branch low self.old else self.old) }
     {
         if self.takes_branch(high) {
-            let back = if low >= 128 { 65024 } else { 0 };
+            let back = if low >= 0o200 { 0o177000 } else { 0 };
             let place = self
                 .register(7)
                 .wrapping_add(2 * low as u16)
@@ -65,7 +65,7 @@ impl Machine {
 impl Machine {
     fn push(&mut self, register: u8) -> Option<()>
         requires { register < 8 }
-        ensures { (self.new, result) ≡ pushed register self.old }
+        ensures { (self.new, result) ≡ after_push register self.old }
     {
         let place = self.register(6).wrapping_sub(2);
         self.set_register(6, place);
@@ -73,7 +73,7 @@ impl Machine {
     }
 
     fn pop(&mut self) -> Option<u16>
-        ensures { (self.new, result) ≡ popped self.old }
+        ensures { (self.new, result) ≡ after_pop self.old }
     {
         let place = self.register(6);
         self.set_register(6, place.wrapping_add(2));
@@ -82,7 +82,7 @@ impl Machine {
 
     pub(crate) fn call(&mut self, register: u8, target: &Ea) -> Option<()>
         requires { (register < 8) × (target.now.register < 8) }
-        ensures { (self.new, result) ≡ called register target.now self.old }
+        ensures { (self.new, result) ≡ after_call register target.now self.old }
     {
         let address = self.address(false, target.mode, target.register)?;
         self.push(register)?;
@@ -93,7 +93,7 @@ impl Machine {
 
     pub(crate) fn return_by(&mut self, register: u8) -> Option<()>
         requires { register < 8 }
-        ensures { (self.new, result) ≡ returned register self.old }
+        ensures { (self.new, result) ≡ after_return register self.old }
     {
         self.set_register(7, self.register(register));
         let word = self.pop()?;
@@ -102,7 +102,7 @@ impl Machine {
     }
 
     pub(crate) fn resume(&mut self) -> Option<()>
-        ensures { (self.new, result) ≡ resumed self.old }
+        ensures { (self.new, result) ≡ after_resume self.old }
     {
         let place = self.pop()?;
         self.set_register(7, place);
@@ -113,7 +113,7 @@ impl Machine {
 
     pub(crate) fn count_down(&mut self, register: u8, back: u8)
         requires { (register < 8) × (back < 64) }
-        ensures { self.new ≡ counted register back self.old }
+        ensures { self.new ≡ after_count_down register back self.old }
     {
         let left = self.register(register).wrapping_sub(1);
         self.set_register(register, left);

@@ -1,10 +1,10 @@
 //! The instructions of two operands.
 
 ghost use Rattle.std.specs.Prelude.{◌≡◌, ℕ, ◌+◌, ◌-◌, ◌%◌, ◌<◌, Some, None};
-ghost use Rattle.pdp11_machine.specs.State.{State};
+ghost use Rattle.pdp11_machine.specs.State.{MachineState};
 ghost use Rattle.pdp11_arithmetic.specs.Words.{whole};
-ghost use Rattle.pdp11_machine.specs.Operands.{IsRegistered, placed, loaded, stored};
-ghost use Rattle.pdp11_machine.specs.Double.{extended, stored_moved, moved, compared, bits_tested, logic_stored, bits_cleared, bits_set, added, subtracted, combined, is_byte, two_done};
+ghost use Rattle.pdp11_machine.specs.Operands.{IsRegistered, operand_place, word_in, after_store};
+ghost use Rattle.pdp11_machine.specs.Double.{sign_extension, after_move_store, after_move, after_compare, after_bit_test, after_logic_store, after_bit_clear, after_bit_set, after_add, after_subtract, after_operation, is_byte, after_double_operand};
 
 use crate::{Machine, Place};
 use pdp11_arithmetic::{difference_leaves_range, difference_of, sum_leaves_range};
@@ -14,7 +14,7 @@ impl Machine {
     fn store_moved(&mut self, byte: bool, target: Place, value: u16) -> Option<()>
         requires registered { IsRegistered target }
         requires small { value < whole byte }
-        ensures { (self.new, result) ≡ stored_moved byte self.old target value }
+        ensures { (self.new, result) ≡ after_move_store byte self.old target value }
     {
         match target {
             Place::Register(register) if byte => {
@@ -28,7 +28,7 @@ impl Machine {
     fn move_value(&mut self, byte: bool, value: u16, target: Place) -> Option<()>
         requires registered { IsRegistered target }
         requires small { value < whole byte }
-        ensures { (self.new, result) ≡ moved byte self.old value target }
+        ensures { (self.new, result) ≡ after_move byte self.old value target }
     {
         let carry = self.carry;
         self.store_moved(byte, target, value)?;
@@ -38,7 +38,7 @@ impl Machine {
 
     fn compare(&mut self, byte: bool, value: u16, target: Place) -> Option<()>
         requires { IsRegistered target }
-        ensures { (self.new, result) ≡ compared byte self.old value target }
+        ensures { (self.new, result) ≡ after_compare byte self.old value target }
     {
         let old = self.load_by(byte, target)?;
         let overflow = difference_leaves_range(byte, value, old);
@@ -48,7 +48,7 @@ impl Machine {
 
     fn test_bits(&mut self, byte: bool, value: u16, target: Place) -> Option<()>
         requires { IsRegistered target }
-        ensures { (self.new, result) ≡ bits_tested byte self.old value target }
+        ensures { (self.new, result) ≡ after_bit_test byte self.old value target }
     {
         let old = self.load_by(byte, target)?;
         self.set_flags_by(byte, value & old, false, self.carry);
@@ -57,7 +57,7 @@ impl Machine {
 
     pub(crate) fn store_logic(&mut self, byte: bool, target: Place, value: u16) -> Option<()>
         requires { IsRegistered target }
-        ensures { (self.new, result) ≡ logic_stored byte self.old target value }
+        ensures { (self.new, result) ≡ after_logic_store byte self.old target value }
     {
         let carry = self.carry;
         self.store_by(byte, target, value)?;
@@ -67,7 +67,7 @@ impl Machine {
 
     fn clear_bits(&mut self, byte: bool, value: u16, target: Place) -> Option<()>
         requires { IsRegistered target }
-        ensures { (self.new, result) ≡ bits_cleared byte self.old value target }
+        ensures { (self.new, result) ≡ after_bit_clear byte self.old value target }
     {
         let old = self.load_by(byte, target)?;
         self.store_logic(byte, target, old & (65535 - value))
@@ -75,7 +75,7 @@ impl Machine {
 
     fn set_bits(&mut self, byte: bool, value: u16, target: Place) -> Option<()>
         requires { IsRegistered target }
-        ensures { (self.new, result) ≡ bits_set byte self.old value target }
+        ensures { (self.new, result) ≡ after_bit_set byte self.old value target }
     {
         let old = self.load_by(byte, target)?;
         self.store_logic(byte, target, old | value)
@@ -83,7 +83,7 @@ impl Machine {
 
     fn add(&mut self, word: u16, target: Place) -> Option<()>
         requires { IsRegistered target }
-        ensures { (self.new, result) ≡ added self.old word target }
+        ensures { (self.new, result) ≡ after_add self.old word target }
     {
         let old = self.load(target)?;
         let sum = old.wrapping_add(word);
@@ -94,7 +94,7 @@ impl Machine {
 
     fn subtract(&mut self, word: u16, target: Place) -> Option<()>
         requires { IsRegistered target }
-        ensures { (self.new, result) ≡ subtracted self.old word target }
+        ensures { (self.new, result) ≡ after_subtract self.old word target }
     {
         let old = self.load(target)?;
         let left = difference_of(false, old, word);
@@ -106,7 +106,7 @@ impl Machine {
     fn combine(&mut self, op: u8, high: bool, value: u16, target: Place) -> Option<()>
         requires registered { IsRegistered target }
         requires small { value < whole (is_byte op high) }
-        ensures { (self.new, result) ≡ combined op high self.old value target }
+        ensures { (self.new, result) ≡ after_operation op high self.old value target }
     {
         match op {
             1 => self.move_value(high, value, target),
@@ -124,7 +124,7 @@ impl Machine {
 
     pub(crate) fn two(&mut self, op: u8, high: bool, source: &Ea, target: &Ea) -> Option<()>
         requires { (source.now.register < 8) × (target.now.register < 8) }
-        ensures { (self.new, result) ≡ two_done op high source.now target.now self.old }
+        ensures { (self.new, result) ≡ after_double_operand op high source.now target.now self.old }
     {
         let byte = has_bytes(op, high);
         let from = self.place(byte, source.mode, source.register)?;
@@ -136,9 +136,9 @@ impl Machine {
 
 fn extended_byte(byte: u16) -> u16
     requires { byte < 256 }
-    ensures { result ≡ extended byte }
+    ensures { result ≡ sign_extension byte }
 {
-    if byte >= 128 { 65280 + byte } else { byte }
+    if byte >= 0o200 { 0o177400 + byte } else { byte }
 }
 
 fn has_bytes(op: u8, high: bool) -> bool

@@ -1,8 +1,8 @@
 //! The instructions of a register and an operand.
 
 ghost use Rattle.std.specs.Prelude.{◌≡◌, ℕ, ◌+◌, ◌*◌, ◌/◌, ◌%◌, ◌<◌, ◌≤◌, Some, None};
-ghost use Rattle.pdp11_machine.specs.State.{State};
-ghost use Rattle.pdp11_machine.specs.Extended.{pair_of, product_stored, multiplied, quotient_stored, left_stored, right_stored, shift_stored, computed, exclusive_or_stored, operand_computed, extended_done, undivided_flags};
+ghost use Rattle.pdp11_machine.specs.State.{MachineState};
+ghost use Rattle.pdp11_machine.specs.Extended.{pair_of, with_product, after_multiply, after_divide, after_left_shift, after_right_shift, after_shift, after_arithmetic, after_exclusive_or, after_operand_arithmetic, after_register_operand, undivided_flags};
 
 use crate::Machine;
 use pdp11_arithmetic::{
@@ -13,7 +13,7 @@ use pdp11_code::Ea;
 impl Machine {
     fn store_product(&mut self, register: u8, product: u32)
         requires { register < 8 }
-        ensures { self.new ≡ product_stored register product self.old }
+        ensures { self.new ≡ with_product register product self.old }
     {
         if register % 2 == 0 {
             self.set_register(register, (product / 65536) as u16);
@@ -25,7 +25,7 @@ impl Machine {
 
     fn multiply(&mut self, register: u8, word: u16)
         requires { register < 8 }
-        ensures { self.new ≡ multiplied register word self.old }
+        ensures { self.new ≡ after_multiply register word self.old }
     {
         let factor = self.register(register);
         let product = product_of(factor, word);
@@ -47,7 +47,7 @@ impl Machine {
 
     fn divide(&mut self, register: u8, word: u16)
         requires { register < 8 }
-        ensures { self.new ≡ quotient_stored register word self.old }
+        ensures { self.new ≡ after_divide register word self.old }
     {
         if word == 0 {
             self.leave_undivided(true);
@@ -68,7 +68,7 @@ impl Machine {
     fn shift_left(&mut self, register: u8, count: u16)
         requires registered { register < 8 }
         requires few { count < 32 }
-        ensures { self.new ≡ left_stored register count self.old }
+        ensures { self.new ≡ after_left_shift register count self.old }
     {
         let word = self.register(register);
         let wide = wide_left_of(word, count);
@@ -81,7 +81,7 @@ impl Machine {
         requires registered { register < 8 }
         requires some { 0 < count }
         requires few { count ≤ 32 }
-        ensures { self.new ≡ right_stored register count self.old }
+        ensures { self.new ≡ after_right_shift register count self.old }
     {
         let wide = wide_right_of(self.register(register));
         let shifted = ((wide >> count) % 65536) as u16;
@@ -91,7 +91,7 @@ impl Machine {
 
     fn shift(&mut self, register: u8, word: u16)
         requires { register < 8 }
-        ensures { self.new ≡ shift_stored register word self.old }
+        ensures { self.new ≡ after_shift register word self.old }
     {
         let count = word % 64;
         if count < 32 {
@@ -101,10 +101,10 @@ impl Machine {
         }
     }
 
-    #[tactic(auto, unfolding(crate::specs::Extended::computed))]
+    #[tactic(auto, unfolding(crate::specs::Extended::after_arithmetic))]
     fn compute(&mut self, op: u8, register: u8, word: u16)
         requires { register < 8 }
-        ensures { self.new ≡ computed op register word self.old }
+        ensures { self.new ≡ after_arithmetic op register word self.old }
     {
         match op {
             0 => self.multiply(register, word),
@@ -115,7 +115,7 @@ impl Machine {
 
     fn exclusive_or(&mut self, register: u8, target: &Ea) -> Option<()>
         requires { (register < 8) × (target.now.register < 8) }
-        ensures { (self.new, result) ≡ exclusive_or_stored register target.now self.old }
+        ensures { (self.new, result) ≡ after_exclusive_or register target.now self.old }
     {
         let word = self.register(register);
         let place = self.place(false, target.mode, target.register)?;
@@ -125,7 +125,7 @@ impl Machine {
 
     fn compute_operand(&mut self, op: u8, register: u8, source: &Ea) -> Option<()>
         requires { (register < 8) × (source.now.register < 8) }
-        ensures { (self.new, result) ≡ operand_computed op register source.now self.old }
+        ensures { (self.new, result) ≡ after_operand_arithmetic op register source.now self.old }
     {
         let place = self.place(false, source.mode, source.register)?;
         let word = self.load(place)?;
@@ -135,7 +135,7 @@ impl Machine {
 
     pub(crate) fn extended(&mut self, op: u8, register: u8, operand: &Ea) -> Option<()>
         requires { (register < 8) × (operand.now.register < 8) }
-        ensures { (self.new, result) ≡ extended_done op register operand.now self.old }
+        ensures { (self.new, result) ≡ after_register_operand op register operand.now self.old }
     {
         if op == 4 {
             self.exclusive_or(register, operand)

@@ -3,9 +3,9 @@
 #![tactic(auto)]
 
 ghost use Rattle.std.specs.Prelude.{◌≡◌, ℕ, ◌+◌, ◌*◌, ◌/◌, ◌%◌, ◌<◌, IfOk, slice_index, length};
-ghost use Rattle.pdp11_machine.specs.State.{State, Flags, IsMachine, reg, with_reg, with_word, status_of, with_status, zero_machine};
+ghost use Rattle.pdp11_machine.specs.State.{MachineState, Flags, IsMachine, reg, with_reg, with_word, status_of, with_status, zero_machine};
 ghost use Rattle.pdp11_arithmetic.specs.Bits.{bit_of};
-ghost use Rattle.pdp11_machine.specs.TakeTrap.{trap_taken};
+ghost use Rattle.pdp11_machine.specs.TakeTrap.{trap_result};
 ghost use Rattle.pdp11_machine.specs.Step.{machine_step};
 
 mod control;
@@ -17,8 +17,7 @@ mod single;
 mod size;
 mod step;
 mod take_trap;
-#[cfg(test)]
-mod tests;
+pub mod vectors;
 mod words;
 
 pub use size::{MEMORY_BYTES, MEMORY_WORDS, REGISTERS};
@@ -28,7 +27,7 @@ use std::alloc::Global;
 use std::marker::Model;
 
 /// How a step ended.
-#[derive(Clone, Copy, Debug, PartialEq, Eq)]
+#[derive(Clone, Copy, PartialEq, Eq)]
 pub enum StepEnd {
     /// The machine went on.
     Went,
@@ -39,7 +38,7 @@ pub enum StepEnd {
 }
 
 /// Where an operand stands: in a register, or at an address of the memory.
-#[derive(Clone, Copy, Debug, PartialEq, Eq)]
+#[derive(Clone, Copy)]
 enum Place {
     Register(u8),
     Cell(u16),
@@ -59,10 +58,10 @@ pub struct Machine {
 
 impl Model for Machine {
     ghost use Rattle.std.specs.Prelude.{◌≡◌, ◌<◌, length};
-    ghost use Rattle.pdp11_machine.specs.State.{State};
+    ghost use Rattle.pdp11_machine.specs.State.{MachineState};
     ghost use Rattle.pdp11_machine.specs.declared.size.TheConstants.{MEMORY_WORDS, REGISTERS};
 
-    ghost Value = { State };
+    ghost Value = { MachineState };
 
     ghost view = { λ m. record { memory = m.memory.items; registers = m.registers; flags = record { negative = m.negative; zero = m.zero; overflow = m.overflow; carry = m.carry }; upper = m.upper } };
 
@@ -155,7 +154,7 @@ impl Machine {
     /// Pushes the status word and PC, and loads them from the vector. False, and nothing is changed, exactly where
     /// the two words of the stack or the two words of the vector cannot be reached.
     pub fn take_trap(&mut self, vector: u16) -> bool
-        ensures { (self.new, result) ≡ trap_taken vector self.old }
+        ensures { (self.new, result) ≡ trap_result vector self.old }
     {
         self.go_to_vector(vector)
     }

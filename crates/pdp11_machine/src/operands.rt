@@ -1,8 +1,8 @@
 //! Where operands stand, and what stands there.
 
 ghost use Rattle.std.specs.Prelude.{◌≡◌, ℕ, ◌+◌, ◌-◌, ◌*◌, ◌/◌, ◌%◌, ◌<◌, ◌≤◌, List, length, Some, None, if◌then◌else◌, IfSome};
-ghost use Rattle.pdp11_machine.specs.State.{State, reg, with_reg, is_place, word_at, with_word};
-ghost use Rattle.pdp11_machine.specs.Operands.{fetched, step_of, incremented, decremented, indexed, behind, addressed, placed, IsRegistered, loaded, stored, byte_at, with_byte, loaded_byte, stored_byte, loaded_by, stored_by};
+ghost use Rattle.pdp11_machine.specs.State.{MachineState, reg, with_reg, is_place, word_at, with_word};
+ghost use Rattle.pdp11_machine.specs.Operands.{after_fetch, step_of, after_increment, after_decrement, after_index, deferred_address, operand_address, operand_place, IsRegistered, word_in, after_store, byte_at, with_byte, byte_in, after_byte_store, value_in, after_value_store};
 ghost use Rattle.pdp11_arithmetic.specs.Words.{whole};
 
 use crate::{MEMORY_BYTES, Machine, Place};
@@ -19,7 +19,7 @@ impl Machine {
     }
 
     pub(crate) fn write(&mut self, address: u16, word: u16) -> Option<()>
-        ensures { (self.new, result) ≡ stored self.old (Place.Cell address) word }
+        ensures { (self.new, result) ≡ after_store self.old (Place.Cell address) word }
     {
         if address % 2 == 0 && address < MEMORY_BYTES {
             self.memory[(address / 2) as usize] = word;
@@ -30,7 +30,7 @@ impl Machine {
     }
 
     pub(crate) fn fetch(&mut self) -> Option<u16>
-        ensures { (self.new, result) ≡ fetched self.old }
+        ensures { (self.new, result) ≡ after_fetch self.old }
     {
         let place = self.register(7);
         let word = self.read(place)?;
@@ -40,7 +40,7 @@ impl Machine {
 
     fn increment(&mut self, bytes: bool, register: u8) -> Option<u16>
         requires { register < 8 }
-        ensures { (self.new, result) ≡ incremented bytes register self.old }
+        ensures { (self.new, result) ≡ after_increment bytes register self.old }
     {
         let address = self.register(register);
         if register == 7 {
@@ -53,7 +53,7 @@ impl Machine {
 
     fn decrement(&mut self, bytes: bool, register: u8) -> Option<u16>
         requires { register < 8 }
-        ensures { (self.new, result) ≡ decremented bytes register self.old }
+        ensures { (self.new, result) ≡ after_decrement bytes register self.old }
     {
         let address = self.register(register).wrapping_sub(step(bytes, register));
         self.set_register(register, address);
@@ -62,14 +62,14 @@ impl Machine {
 
     fn index(&mut self, register: u8) -> Option<u16>
         requires { register < 8 }
-        ensures { (self.new, result) ≡ indexed register self.old }
+        ensures { (self.new, result) ≡ after_index register self.old }
     {
         let offset = self.fetch()?;
         Some(self.register(register).wrapping_add(offset))
     }
 
     fn through(&self, deferred: bool, address: u16) -> Option<u16>
-        ensures { result ≡ behind deferred self.now address }
+        ensures { result ≡ deferred_address deferred self.now address }
     {
         if deferred {
             self.read(address)
@@ -80,7 +80,7 @@ impl Machine {
 
     pub(crate) fn address(&mut self, byte: bool, mode: u8, register: u8) -> Option<u16>
         requires { register < 8 }
-        ensures { (self.new, result) ≡ addressed byte mode register self.old }
+        ensures { (self.new, result) ≡ operand_address byte mode register self.old }
     {
         if mode == 1 {
             Some(self.register(register))
@@ -98,7 +98,7 @@ impl Machine {
 
     pub(crate) fn place(&mut self, byte: bool, mode: u8, register: u8) -> Option<Place>
         requires { register < 8 }
-        ensures place { (self.new, result) ≡ placed byte mode register self.old }
+        ensures place { (self.new, result) ≡ operand_place byte mode register self.old }
         ensures registered { IfSome result IsRegistered }
     {
         if mode == 0 {
@@ -111,7 +111,7 @@ impl Machine {
 
     pub(crate) fn load(&self, place: Place) -> Option<u16>
         requires { IsRegistered place }
-        ensures { result ≡ loaded self.now place }
+        ensures { result ≡ word_in self.now place }
     {
         match place {
             Place::Register(register) => Some(self.register(register)),
@@ -121,7 +121,7 @@ impl Machine {
 
     pub(crate) fn store(&mut self, place: Place, word: u16) -> Option<()>
         requires { IsRegistered place }
-        ensures { (self.new, result) ≡ stored self.old place word }
+        ensures { (self.new, result) ≡ after_store self.old place word }
     {
         match place {
             Place::Register(register) => {
@@ -152,7 +152,7 @@ impl Machine {
 
     fn load_byte(&self, place: Place) -> Option<u16>
         requires { IsRegistered place }
-        ensures value { result ≡ loaded_byte self.now place }
+        ensures value { result ≡ byte_in self.now place }
         ensures small { IfSome result (λ byte. byte < 256) }
     {
         match place {
@@ -163,7 +163,7 @@ impl Machine {
 
     fn store_byte(&mut self, place: Place, byte: u16) -> Option<()>
         requires { IsRegistered place }
-        ensures { (self.new, result) ≡ stored_byte self.old place byte }
+        ensures { (self.new, result) ≡ after_byte_store self.old place byte }
     {
         match place {
             Place::Register(register) => {
@@ -185,7 +185,7 @@ impl Machine {
 
     pub(crate) fn load_by(&self, byte: bool, place: Place) -> Option<u16>
         requires { IsRegistered place }
-        ensures value { result ≡ loaded_by byte self.now place }
+        ensures value { result ≡ value_in byte self.now place }
         ensures small { IfSome result (λ value. value < whole byte) }
     {
         if byte {
@@ -197,7 +197,7 @@ impl Machine {
 
     pub(crate) fn store_by(&mut self, byte: bool, place: Place, value: u16) -> Option<()>
         requires { IsRegistered place }
-        ensures { (self.new, result) ≡ stored_by byte self.old place value }
+        ensures { (self.new, result) ≡ after_value_store byte self.old place value }
     {
         if byte {
             self.store_byte(place, value)

@@ -1,8 +1,8 @@
 //! The instructions of one operand.
 
 ghost use Rattle.std.specs.Prelude.{◌≡◌, ℕ, ◌<◌, Some, None};
-ghost use Rattle.pdp11_machine.specs.State.{State};
-ghost use Rattle.pdp11_machine.specs.Single.{jumped, cleared, tested, swapped, sign_stored, changed, one_done};
+ghost use Rattle.pdp11_machine.specs.State.{MachineState};
+ghost use Rattle.pdp11_machine.specs.Single.{after_jump, after_clear, after_test, after_swap, after_sign_extend, after_change, after_single_operand};
 
 use crate::Machine;
 use pdp11_arithmetic::apply;
@@ -11,7 +11,7 @@ use pdp11_code::Ea;
 impl Machine {
     fn jump(&mut self, target: &Ea) -> Option<()>
         requires { target.now.register < 8 }
-        ensures { (self.new, result) ≡ jumped target.now self.old }
+        ensures { (self.new, result) ≡ after_jump target.now self.old }
     {
         let address = self.address(false, target.mode, target.register)?;
         self.set_register(7, address);
@@ -20,7 +20,7 @@ impl Machine {
 
     fn clear(&mut self, byte: bool, target: &Ea) -> Option<()>
         requires { target.now.register < 8 }
-        ensures { (self.new, result) ≡ cleared byte target.now self.old }
+        ensures { (self.new, result) ≡ after_clear byte target.now self.old }
     {
         let place = self.place(byte, target.mode, target.register)?;
         self.store_by(byte, place, 0)?;
@@ -30,7 +30,7 @@ impl Machine {
 
     fn test(&mut self, byte: bool, target: &Ea) -> Option<()>
         requires { target.now.register < 8 }
-        ensures { (self.new, result) ≡ tested byte target.now self.old }
+        ensures { (self.new, result) ≡ after_test byte target.now self.old }
     {
         let place = self.place(byte, target.mode, target.register)?;
         let value = self.load_by(byte, place)?;
@@ -40,7 +40,7 @@ impl Machine {
 
     fn swap_bytes(&mut self, target: &Ea) -> Option<()>
         requires { target.now.register < 8 }
-        ensures { (self.new, result) ≡ swapped target.now self.old }
+        ensures { (self.new, result) ≡ after_swap target.now self.old }
     {
         let place = self.place(false, target.mode, target.register)?;
         let old = self.load(place)?;
@@ -51,10 +51,10 @@ impl Machine {
 
     fn store_sign(&mut self, target: &Ea) -> Option<()>
         requires { target.now.register < 8 }
-        ensures { (self.new, result) ≡ sign_stored target.now self.old }
+        ensures { (self.new, result) ≡ after_sign_extend target.now self.old }
     {
         let place = self.place(false, target.mode, target.register)?;
-        let word = if self.negative { 65535 } else { 0 };
+        let word = if self.negative { 0o177777 } else { 0 };
         self.store(place, word)?;
         self.zero = !self.negative;
         self.overflow = false;
@@ -63,7 +63,7 @@ impl Machine {
 
     fn change(&mut self, op: u8, byte: bool, target: &Ea) -> Option<()>
         requires { target.now.register < 8 }
-        ensures { (self.new, result) ≡ changed op byte target.now self.old }
+        ensures { (self.new, result) ≡ after_change op byte target.now self.old }
     {
         let place = self.place(byte, target.mode, target.register)?;
         let old = self.load_by(byte, place)?;
@@ -75,7 +75,7 @@ impl Machine {
 
     pub(crate) fn one(&mut self, op: u8, high: bool, target: &Ea) -> Option<()>
         requires { target.now.register < 8 }
-        ensures { (self.new, result) ≡ one_done op high target.now self.old }
+        ensures { (self.new, result) ≡ after_single_operand op high target.now self.old }
     {
         match op {
             0o01 => self.jump(target),

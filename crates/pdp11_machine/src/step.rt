@@ -2,41 +2,28 @@
 
 ghost use Rattle.std.specs.Prelude.{◌≡◌, ℕ, ◌<◌, Some, None};
 ghost use Rattle.pdp11_code.specs.Write.{IsInstr};
-ghost use Rattle.pdp11_machine.specs.State.{State};
-ghost use Rattle.pdp11_machine.specs.Step.{end_at, bare_done, done, machine_step};
+ghost use Rattle.pdp11_machine.specs.State.{MachineState};
+ghost use Rattle.pdp11_machine.specs.Step.{end_at, after_bare, after_instruction, machine_step};
 
-use crate::{Machine, StepEnd};
+use crate::{Machine, StepEnd, vectors};
 use pdp11_code::{Instr, decode};
-
-// The vectors of the traps.
-const BUS: u16 = 0o4;
-
-const RESERVED: u16 = 0o10;
-
-const BREAKPOINT: u16 = 0o14;
-
-const INPUT_OUTPUT: u16 = 0o20;
-
-const EMULATOR: u16 = 0o30;
-
-const PROGRAM: u16 = 0o34;
 
 impl Machine {
     pub(crate) fn next_instruction(&mut self) -> StepEnd
         ensures { (self.new, result) ≡ machine_step self.old }
     {
         let Some(word) = self.fetch() else {
-            return StepEnd::Trap(BUS, 0);
+            return StepEnd::Trap(vectors::BUS_ERROR, 0);
         };
         match decode(&[word, 0, 0]) {
-            None => StepEnd::Trap(RESERVED, word),
+            None => StepEnd::Trap(vectors::RESERVED, word),
             Some((instr, _)) => self.carry_out(&instr, word),
         }
     }
 
     fn carry_out(&mut self, instr: &Instr, word: u16) -> StepEnd
         requires { IsInstr instr.now }
-        ensures { (self.new, result) ≡ done instr.now word self.old }
+        ensures { (self.new, result) ≡ after_instruction instr.now word self.old }
     {
         match instr {
             Instr::Two(op, high, source, target) => end_of(
@@ -57,8 +44,8 @@ impl Machine {
                 self.branch(*high, *low);
                 StepEnd::Went
             }
-            Instr::Emt(_) => StepEnd::Trap(EMULATOR, word),
-            Instr::Trap(_) => StepEnd::Trap(PROGRAM, word),
+            Instr::Emt(_) => StepEnd::Trap(vectors::EMULATOR, word),
+            Instr::Trap(_) => StepEnd::Trap(vectors::PROGRAM, word),
             Instr::Flags(set, bits) => {
                 self.set_codes(*set, *bits);
                 StepEnd::Went
@@ -68,12 +55,12 @@ impl Machine {
     }
 
     fn bare(&mut self, low: u8, word: u16) -> StepEnd
-        ensures { (self.new, result) ≡ bare_done low word self.old }
+        ensures { (self.new, result) ≡ after_bare low word self.old }
     {
         match low {
             0 => StepEnd::Halted,
-            3 => StepEnd::Trap(BREAKPOINT, word),
-            4 => StepEnd::Trap(INPUT_OUTPUT, word),
+            3 => StepEnd::Trap(vectors::BREAKPOINT, word),
+            4 => StepEnd::Trap(vectors::INPUT_OUTPUT, word),
             _ => end_of(word, self.resume()),
         }
     }
@@ -85,6 +72,6 @@ fn end_of(word: u16, part: Option<()>) -> StepEnd
 {
     match part {
         Some(_) => StepEnd::Went,
-        None => StepEnd::Trap(BUS, word),
+        None => StepEnd::Trap(vectors::BUS_ERROR, word),
     }
 }

@@ -1,14 +1,14 @@
 //! A trap that is taken.
 
 ghost use Rattle.std.specs.Prelude.{◌≡◌, ℕ, ◌+◌, ◌<◌, ◌%◌, IsTrue, slice_index};
-ghost use Rattle.pdp11_machine.specs.State.{State, reg, is_place};
-ghost use Rattle.pdp11_machine.specs.TakeTrap.{is_reachable, with_trap_pushed, with_vector, trap_taken};
+ghost use Rattle.pdp11_machine.specs.State.{MachineState, reg, is_place};
+ghost use Rattle.pdp11_machine.specs.TakeTrap.{is_reachable, with_trap_pushed, with_vector, trap_result};
 
 use crate::{MEMORY_BYTES, Machine};
 
 impl Machine {
     pub(crate) fn go_to_vector(&mut self, vector: u16) -> bool
-        ensures { (self.new, result) ≡ trap_taken vector self.old }
+        ensures { (self.new, result) ≡ trap_result vector self.old }
     {
         if self.reaches(vector) {
             self.push_trap();

@@ -1,7 +1,7 @@
 //! What the flags say of words and bytes.
 
 ghost use Rattle.std.specs.Prelude.{◌≡◌};
-ghost use Rattle.pdp11_machine.specs.State.{State};
+ghost use Rattle.pdp11_machine.specs.State.{MachineState};
 ghost use Rattle.pdp11_machine.specs.Words.{flags_of, flags_by};
 
 use crate::Machine;

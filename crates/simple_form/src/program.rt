@@ -18,7 +18,7 @@ const MAX_VARIABLES: usize = 64;
 
 /// The statements of a simple program that have a block, in the order of the text, each with its name in the program.
 /// A variable's number is its place among the variables, counted from 0.
-#[derive(Debug, Drop)]
+#[derive(Drop)]
 pub struct SimpleProgram {
     pub statements: Vec<Statement>,
 }

@@ -23,12 +23,12 @@ use Rattle.pascal_semantics.specs.declared.form.Sum.{Sum}
 use Rattle.pascal_semantics.specs.declared.form.SimpleForm.{SimpleForm}
 use Rattle.pascal_semantics.specs.declared.form.SimpleForm.TheVariants.{Assign, WriteLine, Empty}
 use Rattle.pascal_semantics.specs.Charge.{charge_of, operand_charge, second_charge}
-use Rattle.pascal_semantics.specs.Step.{Result, Value, Error, operand_value}
-use Rattle.pascal_semantics.specs.Outcome.{sum_outcome}
+use Rattle.pascal_semantics.specs.Step.{Evaluation, Value, Error, operand_value}
+use Rattle.pascal_semantics.specs.Evaluations.{sum_evaluation}
 use Rattle.pascal_semantics.specs.Valid.{IsOperand, IsSecond, IsSum, IsForm}
 use Rattle.statement_code.specs.Code.{operand_words, second_words, sum_words, value_words, effect_words, behind_gate, statement_words, statement_block, filler, link_offset}
-use Rattle.statement_code.specs.Gives.{Gives, HasGlobals, Ready}
-use Rattle.statement_code.specs.Forms.{StatementBlock, NoCall, Store, stored, exit_by, outcome_of, FrameHolds, Holds, most, simple}
+use Rattle.statement_code.specs.ExpressionCode.{Evaluates, HasGlobals, Ready}
+use Rattle.statement_code.specs.Forms.{StatementBlock, NoCall, Store, after_effect, exit_by, evaluation_of, FrameHolds, Holds, most, simple}
 use Rattle.statement_code.specs.Emitted.{IsMade, IsStatementCode, IsCodeOf}
 use Rattle.statement_code.proofs.Sums.{sum-is, is_lost}
 use Rattle.statement_code.proofs.Runs.{ready_front, ready_back, globals_still, operand_small, sum_does}
@@ -83,11 +83,11 @@ laid_words f g link fill =
 -- ---- what comes out of a sum
 
 -- a value is a word, and an error has a trap
-abbrev pub IsPlain : Result → Type 0
+abbrev pub IsPlain : Evaluation → Type 0
 IsPlain (Value v) = v < 65536
 IsPlain (Error number) = (1 ≤ number) × (number ≤ 14)
 
-outcome_plain : (a : Operand) (o : Option Operand) (globals : List ℕ) (c : Cpu) → IsOperand a → IsSecond o → HasGlobals globals c → IsPlain (sum_outcome a o globals)
+outcome_plain : (a : Operand) (o : Option Operand) (globals : List ℕ) (c : Cpu) → IsOperand a → IsSecond o → HasGlobals globals c → IsPlain (sum_evaluation a o globals)
 outcome_plain a None globals c isa iso h = operand_small a globals c isa h
 outcome_plain a (Some b) globals c isa isb h = subst IsPlain (sym (sum-is (operand_value a globals) (operand_value b globals) (operand_small a globals c isa h) (operand_small b globals c isb h))) (by (is_lost (operand_value a globals) (operand_value b globals)))
   where
@@ -114,7 +114,7 @@ frame_still true c e r s high h = record {
 }
 frame_still false c e r s high h = s ∙ h
 
-stored_started : (f : SimpleForm) (v : ℕ) (d : Store) → (stored f v d).started ≡ d.started
+stored_started : (f : SimpleForm) (v : ℕ) (d : Store) → (after_effect f v d).started ≡ d.started
 stored_started (Assign g e) v d = refl
 stored_started (WriteLine e w) v d = refl
 stored_started Empty v d = refl
@@ -124,7 +124,7 @@ stored_started Empty v d = refl
 abbrev pub IsLaid : SimpleForm → Block → Type 0
 IsLaid f b = (b.links ≡ record { at = link_offset f; to = Next } ∷ []) × (length b.words ≡ charge_of f)
 
-exits : (f : SimpleForm) (d : Store) (hs : List (Hanging NoCall)) (b : Block) (p : ℕ) (q : LinkTo → ℕ) (c : Cpu) (r : Result) → HasValue f → IsForm f → IsLaid f b → length d.output + 257 ≤ 65536 → IsPlain r → c.pc ≡ p + 1 → Ready (behind_gate f (2 * q Next)) d.globals 2 c → Holds d hs c → Gives (length (value_words f)) c r
+exits : (f : SimpleForm) (d : Store) (hs : List (Hanging NoCall)) (b : Block) (p : ℕ) (q : LinkTo → ℕ) (c : Cpu) (r : Evaluation) → HasValue f → IsForm f → IsLaid f b → length d.output + 257 ≤ 65536 → IsPlain r → c.pc ≡ p + 1 → Ready (behind_gate f (2 * q Next)) d.globals 2 c → Holds d hs c → Evaluates (length (value_words f)) c r
     → Exits simple (most (StatementBlock f) (At Gate)) (StatementBlock f) b p q hs c (exit_by f d r)
 exits f d hs b p q c (Error number) has is laid room plain at r holds (e, t) =
     let fits = words_fit f in
@@ -184,15 +184,15 @@ nothing_done d hs b p q c laid r holds =
     )
 
 behind_runs : (f : SimpleForm) (d : Store) (hs : List (Hanging NoCall)) (b : Block) (p g : ℕ) (q : LinkTo → ℕ) (c : Cpu) → IsForm f → IsLaid f b → length d.output + 257 ≤ 65536 → HasAt c.mem p (statement_words f g (2 * q Next)) → p + charge_of f ≤ GLOBALS_WORD → length c.mem ≡ MEMORY_END_WORD → Holds d hs c → c.pc ≡ p + 1
-    → Exits simple (most (StatementBlock f) (At Gate)) (StatementBlock f) b p q hs c (exit_by f d (outcome_of f d))
+    → Exits simple (most (StatementBlock f) (At Gate)) (StatementBlock f) b p q hs c (exit_by f d (evaluation_of f d))
 behind_runs f d hs b p g q c is laid room here below long holds at = by f is laid (behind_ready f d hs p g q c here below long holds at)
   where
-    with_sum : (f : SimpleForm) (e : Sum) → HasValue f → IsForm f → IsSum e → IsLaid f b → Ready (behind_gate f (2 * q Next)) d.globals 2 c → value_words f ≡ sum_words e → Exits simple (most (StatementBlock f) (At Gate)) (StatementBlock f) b p q hs c (exit_by f d (sum_outcome e.first e.second d.globals))
+    with_sum : (f : SimpleForm) (e : Sum) → HasValue f → IsForm f → IsSum e → IsLaid f b → Ready (behind_gate f (2 * q Next)) d.globals 2 c → value_words f ≡ sum_words e → Exits simple (most (StatementBlock f) (At Gate)) (StatementBlock f) b p q hs c (exit_by f d (sum_evaluation e.first e.second d.globals))
     with_sum f e has is iss laid r same =
-        exits f d hs b p q c (sum_outcome e.first e.second d.globals) has is laid room (outcome_plain e.first e.second d.globals c iss.0 iss.1 holds.globals_are) at r holds
-        (subst (λ ws. Gives (length ws) c (sum_outcome e.first e.second d.globals)) (sym same) (sum_does e.first e.second d.globals c iss.0 iss.1 (subst (λ ws. Ready ws d.globals 2 c) same (ready_front (value_words f) _ d.globals 2 2 c (omega arith) r))))
+        exits f d hs b p q c (sum_evaluation e.first e.second d.globals) has is laid room (outcome_plain e.first e.second d.globals c iss.0 iss.1 holds.globals_are) at r holds
+        (subst (λ ws. Evaluates (length ws) c (sum_evaluation e.first e.second d.globals)) (sym same) (sum_does e.first e.second d.globals c iss.0 iss.1 (subst (λ ws. Ready ws d.globals 2 c) same (ready_front (value_words f) _ d.globals 2 2 c (omega arith) r))))
 
-    by : (f : SimpleForm) → IsForm f → IsLaid f b → Ready (behind_gate f (2 * q Next)) d.globals 2 c → Exits simple (most (StatementBlock f) (At Gate)) (StatementBlock f) b p q hs c (exit_by f d (outcome_of f d))
+    by : (f : SimpleForm) → IsForm f → IsLaid f b → Ready (behind_gate f (2 * q Next)) d.globals 2 c → Exits simple (most (StatementBlock f) (At Gate)) (StatementBlock f) b p q hs c (exit_by f d (evaluation_of f d))
     by (Assign g e) is laid r = with_sum (Assign g e) e tt is is.1 laid r refl
     by (WriteLine e w) is laid r = with_sum (WriteLine e w) e tt is is.0 laid r refl
     by Empty is laid r = nothing_done d hs b p q c laid r holds

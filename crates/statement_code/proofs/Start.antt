@@ -20,7 +20,7 @@ use Rattle.console_service.specs.BlockOf.{block_of, link_of, first_of}
 use Rattle.console_service.specs.Semantics.{At, Back, Out, Over, Hanging}
 use Rattle.console_service.specs.Image.{AreLinks, Gives as Exits, Implements, HasLink}
 use Rattle.statement_code.specs.Code.{frame_words, program_words, program_block, filler}
-use Rattle.statement_code.specs.Gives.{HasGlobals}
+use Rattle.statement_code.specs.ExpressionCode.{HasGlobals}
 use Rattle.statement_code.specs.Forms.{ProgramBlock, NoCall, Store, HasFrame, FrameHolds, Holds, most, simple}
 use Rattle.statement_code.specs.Emitted.{IsMade, IsProgramCode, IsCodeOf}
 use Rattle.statement_code.proofs.Effects.{jump_end}

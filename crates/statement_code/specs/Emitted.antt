@@ -4,6 +4,7 @@ use Rattle.dice_base.specs.declared.link.LinkTo.{LinkTo}
 use Rattle.dice_base.specs.declared.link.LinkTo.TheVariants.{Next, Child}
 use Rattle.dice_base.specs.declared.link.LinkWord.{LinkWord}
 use Rattle.console_service.specs.declared.block.BlockCode.{BlockCode}
+use Rattle.console_service.specs.declared.opcodes.TheConstants.{NOP, BPT}
 use Rattle.console_service.specs.BlockOf.{block_of}
 use Rattle.console_service.specs.Image.{IsBlock, Implements}
 use Rattle.statement_code.specs.Forms.{BlockForm, block_charge, simple}
@@ -29,7 +30,7 @@ pub record HasLinkWord (code : BlockCode) (to : LinkTo) : Type 0 where
 -- the block of a statement: it is begun at its gate, its first word, and leads to what comes after the statement
 pub record IsStatementCode (code : BlockCode) : Type 0 where
   pub gate : code.gate ≡ Some 0
-  pub nop : slice_index code.words.items 0 ≡ 160
+  pub nop : slice_index code.words.items 0 ≡ NOP
   pub step : code.step ≡ None
   pub end : code.end ≡ None
   pub leave : code.leave ≡ None
@@ -39,8 +40,8 @@ pub record IsStatementCode (code : BlockCode) : Type 0 where
 
 -- no gate is this word
 pub record IsNoGate (word : ℕ) : Type 0 where
-  pub no_nop : word ≢ 160
-  pub no_bpt : word ≢ 3
+  pub no_nop : word ≢ NOP
+  pub no_bpt : word ≢ BPT
 
 -- the program's block is begun at its first word, which is no gate, leads to its body, and has an end part
 pub record IsProgramCode (code : BlockCode) : Type 0 where

@@ -1,5 +1,6 @@
 -- What the blocks of simple programs do, and when a machine stands for their variables, their frame and their output.
 use Rattle.std.specs.Prelude.{◌≡◌, ℕ, ◌+◌, ◌-◌, ◌*◌, ◌<◌, ◌≤◌, Bool, true, false, List, [], ◌∷◌, ◌++◌, length, slice_index, slice_set}
+use Rattle.dice_base.specs.IntegerText.{integer_text}
 use Rattle.dice_base.specs.declared.link.LinkTo.TheVariants.{Next, Child}
 use Rattle.console_service.specs.declared.memory_map.TheConstants.{CONSOLE_ROOM_BYTES, MEMORY_END_BYTE, MEMORY_END_WORD}
 use Rattle.statement_code.specs.declared.emit.TheConstants.{STACK_CHARGE_WORDS}
@@ -9,9 +10,9 @@ use Rattle.console_service.specs.Semantics.{Begin, At, Exit, Out, Over, Fails, H
 use Rattle.pascal_semantics.specs.declared.form.SimpleForm.{SimpleForm}
 use Rattle.pascal_semantics.specs.declared.form.SimpleForm.TheVariants.{Assign, WriteLine, Empty}
 use Rattle.pascal_semantics.specs.Charge.{charge_of, program_charge}
-use Rattle.pascal_semantics.specs.Step.{Result, Value, Error, width_of, integer_text}
-use Rattle.pascal_semantics.specs.Outcome.{form_outcome}
-use Rattle.statement_code.specs.Gives.{HasGlobals}
+use Rattle.pascal_semantics.specs.Step.{Evaluation, Value, Error, width_of}
+use Rattle.pascal_semantics.specs.Evaluations.{form_evaluation}
+use Rattle.statement_code.specs.ExpressionCode.{HasGlobals}
 
 -- the own forms of blocks: that of the program, and those of its statements
 pub data BlockForm : Type 0 where
@@ -22,9 +23,11 @@ pub data BlockForm : Type 0 where
 abbrev pub NoCall : Type 0
 NoCall = ⊥
 
+-- there is none to number
 abbrev pub call_number : NoCall → ℕ
 call_number path = 0
 
+-- there is none in any form
 abbrev pub IsCall : BlockForm → NoCall → Type 0
 IsCall f path = ⊥
 
@@ -35,21 +38,23 @@ pub record Store : Type 0 where
   pub started : Bool
 
 -- what a statement does with the value of its sum
-abbrev pub stored : SimpleForm → ℕ → Store → Store
-stored (Assign g e) v d = record d { globals = slice_set d.globals g v }
-stored (WriteLine e w) v d = record d { output = d.output ++ (integer_text v (width_of w) ++ 10 ∷ []) }
-stored Empty v d = d
+abbrev pub after_effect : SimpleForm → ℕ → Store → Store
+after_effect (Assign g e) v d = record d { globals = slice_set d.globals g v }
+after_effect (WriteLine e w) v d = record d { output = d.output ++ (integer_text v (width_of w) ++ 10 ∷ []) }
+after_effect Empty v d = d
 
-abbrev pub exit_by : SimpleForm → Store → Result → Exit NoCall Store
-exit_by f d (Value v) = Out Next (stored f v d)
+-- how a statement leaves its block: to the next one, or in an error
+abbrev pub exit_by : SimpleForm → Store → Evaluation → Exit NoCall Store
+exit_by f d (Value v) = Out Next (after_effect f v d)
 exit_by f d (Error number) = Fails number d
 
-abbrev pub outcome_of : SimpleForm → Store → Result
-outcome_of f d = form_outcome f d.globals
+-- the value that a statement does its effect with, or its error
+abbrev pub evaluation_of : SimpleForm → Store → Evaluation
+evaluation_of f d = form_evaluation f d.globals
 
 -- a statement is carried out from its gate; the program's block makes the frame, and its end part ends the program
 abbrev pub does : BlockForm → Begin NoCall → Store → Exit NoCall Store
-does (StatementBlock f) s d = exit_by f d (outcome_of f d)
+does (StatementBlock f) s d = exit_by f d (evaluation_of f d)
 does ProgramBlock (At First) d = Out (Child 0) (record d { started = true })
 does ProgramBlock other d = Over d
 
@@ -64,6 +69,7 @@ pub record HasFrame (c : Cpu) : Type 0 where
   pub charges : slice_index c.mem (MEMORY_END_WORD - 4) ≡ STACK_CHARGE_WORDS
   pub zeros : (k : ℕ) → MEMORY_END_WORD - 13 ≤ k → k < MEMORY_END_WORD - 4 → slice_index c.mem k ≡ 0
 
+-- the program's frame is made, or the stack is empty before that
 abbrev pub FrameHolds : Bool → Cpu → Type 0
 FrameHolds true c = HasFrame c
 FrameHolds false c = c.sp ≡ MEMORY_END_WORD
@@ -89,6 +95,7 @@ IsGood (StatementBlock f) s d = length d.output + line_room ≤ CONSOLE_ROOM_BYT
 IsGood ProgramBlock (At First) d = d.started ≡ false
 IsGood ProgramBlock other d = Unit {0}
 
+-- the words of a block
 abbrev pub block_charge : BlockForm → ℕ
 block_charge ProgramBlock = program_charge
 block_charge (StatementBlock f) = charge_of f
@@ -97,5 +104,14 @@ block_charge (StatementBlock f) = charge_of f
 abbrev pub most : BlockForm → Begin NoCall → ℕ
 most f s = 16384 * block_charge f
 
+-- the meaning of simple programs, for the level of blocks
 abbrev pub simple : Semantics BlockForm NoCall Store
-simple = record { does = does; number = call_number; IsPath = IsCall; IsGood = IsGood; Holds = Holds; Shows = Shows; most = most }
+simple = record {
+  does = does;
+  number = call_number;
+  IsPath = IsCall;
+  IsGood = IsGood;
+  Holds = Holds;
+  Shows = Shows;
+  most = most;
+}

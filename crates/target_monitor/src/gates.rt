@@ -2,13 +2,13 @@
 ghost use Rattle.std.specs.Prelude.{◌≡◌, ◌+◌, ◌≤◌, ◌%◌, Some};
 ghost use Rattle.pdp11_machine.specs.State.{reg, word_at, with_reg};
 ghost use Rattle.console_service.specs.Run.{is_gate_word};
-ghost use Rattle.target_monitor.specs.Go.{end_of, is_break_word, to_gate, on_the_way, gone};
+ghost use Rattle.target_monitor.specs.Go.{end_of, is_break_word, to_gate, run_on_the_way, go_result};
 
-use console_service::{Console, Stop, execute};
+use console_service::{BPT, Console, NOP, Stop, execute};
 use pdp11_machine::{MEMORY_BYTES, Machine};
 
 /// How a run ended.
-#[derive(Clone, Copy, PartialEq, Eq, Debug)]
+#[derive(Clone, Copy, PartialEq, Eq)]
 pub enum GoEnd {
     /// As many gates were passed as were asked for, and the next one is reached.
     Counted,
@@ -29,7 +29,7 @@ pub enum GoEnd {
 }
 
 /// How a run ended, and the number of gates that it passed.
-#[derive(Clone, Copy, PartialEq, Eq, Debug)]
+#[derive(Clone, Copy, PartialEq, Eq)]
 pub struct Went {
     pub end: GoEnd,
     pub passed: u32,
@@ -42,7 +42,7 @@ const INSTRUCTION_LIMIT: u32 = 20_000_000;
 /// else passes it. The other ends come before the next gate.
 pub fn go(machine: &mut Machine, console: &mut Console, gates: u32) -> Went
     requires { 1 ≤ gates }
-    ensures { (machine.new, console.new, result) ≡ gone gates machine.old console.old }
+    ensures { (machine.new, console.new, result) ≡ go_result gates machine.old console.old }
 {
     if at_gate(machine) {
         pass_gate(machine);
@@ -55,7 +55,7 @@ pub fn go(machine: &mut Machine, console: &mut Console, gates: u32) -> Went
 // The rest of a run that has passed so many gates, where it is on the way to the next one.
 fn run_gates(machine: &mut Machine, console: &mut Console, first: u32, gates: u32) -> Went
     requires { first ≤ gates }
-    ensures { (machine.new, console.new, result) ≡ on_the_way gates first (machine.old, console.old) }
+    ensures { (machine.new, console.new, result) ≡ run_on_the_way gates first (machine.old, console.old) }
 {
     for passed in first..gates {
         if let Some(end) = run_to_gate(machine, console, INSTRUCTION_LIMIT) {
@@ -120,7 +120,7 @@ fn at_gate(machine: &Machine) -> bool
 {
     match word_at_pc(machine) {
         None => false,
-        Some(word) => word == 0o240 || word == 0o3,
+        Some(word) => word == NOP || word == BPT,
     }
 }
 
@@ -129,7 +129,7 @@ fn at_break(machine: &Machine) -> bool
 {
     match word_at_pc(machine) {
         None => false,
-        Some(word) => word == 0o3,
+        Some(word) => word == BPT,
     }
 }
 

@@ -6,7 +6,7 @@ use Rattle.console_service.specs.Cpu.{Cpu, HasAt, Keeps, Comes}
 use Rattle.console_service.specs.declared.memory_map.TheConstants.{GLOBALS_WORD, STACK_WORD, MEMORY_END_WORD}
 use Rattle.console_service.specs.Image.{trap_word}
 use Rattle.pascal_semantics.specs.declared.limits.TheConstants.{GLOBAL_WORDS}
-use Rattle.pascal_semantics.specs.Step.{Result, Value, Error}
+use Rattle.pascal_semantics.specs.Step.{Evaluation, Value, Error}
 
 -- the value is pushed, and the program goes on behind the words
 pub record Pushed (len : ℕ) (c d : Cpu) (v : ℕ) : Type 0 where
@@ -26,9 +26,10 @@ pub record Trapped (len : ℕ) (c d : Cpu) (number : ℕ) : Type 0 where
   pub from : c.pc ≤ d.pc
   pub to : d.pc < c.pc + len
 
-abbrev pub Gives : ℕ → Cpu → Result → Type 0
-Gives len c (Value v) = (d : Cpu) × Pushed len c d v
-Gives len c (Error number) = (d : Cpu) × Trapped len c d number
+-- the code comes to this value, or to this error
+abbrev pub Evaluates : ℕ → Cpu → Evaluation → Type 0
+Evaluates len c (Value v) = (d : Cpu) × Pushed len c d v
+Evaluates len c (Error number) = (d : Cpu) × Trapped len c d number
 
 -- the words of the memory are these globals
 pub record HasGlobals (globals : List ℕ) (c : Cpu) : Type 0 where
