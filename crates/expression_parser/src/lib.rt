@@ -11,6 +11,3 @@ mod exprs;
 
 pub use cursor::Cursor;
 pub use exprs::{access_parts, expr, inner_expr};
-
-#[cfg(test)]
-mod tests;

@@ -24,11 +24,11 @@ IsUnlessMemory (Err NoMemory) a = Unit {0}
 IsUnlessMemory (Err NoReading) a = ⊥
 
 -- the tree that is read of all the tokens, or there is none
-abbrev pub ReadsAll : {A : Type 0} → Outcome A → Result A Stop → Type 0
-ReadsAll outcome (Ok a) = outcome ≡ Ok (a, [])
-ReadsAll outcome (Err Memory) = Unit {0}
-ReadsAll {A} outcome (Err (At left)) = (a : A) → outcome ≡ Ok (a, []) → ⊥
-ReadsAll {A} outcome (Err (Deep left)) = (a : A) → outcome ≡ Ok (a, []) → ⊥
+abbrev pub ReadsWhole : {A : Type 0} → Outcome A → Result A Stop → Type 0
+ReadsWhole outcome (Ok a) = outcome ≡ Ok (a, [])
+ReadsWhole outcome (Err Memory) = Unit {0}
+ReadsWhole {A} outcome (Err (At left)) = (a : A) → outcome ≡ Ok (a, []) → ⊥
+ReadsWhole {A} outcome (Err (Deep left)) = (a : A) → outcome ≡ Ok (a, []) → ⊥
 
 -- why tokens are not read, as the caller sees it
 abbrev pub fault_of : Stop → ParseFault

@@ -1,15 +1,15 @@
 //! Declarations, blocks and programs.
 ghost use Rattle.std.specs.Prelude.{◌≡◌};
+ghost use Rattle.pascal_tree.specs.Classes.{comma_class};
 ghost use Rattle.grammar_laws.specs.Parsers as parsers;
 ghost use Rattle.grammar_laws.specs.Parsers.{Reads, separated, behind};
 ghost use Rattle.grammar_laws.specs.ProgramReading as spec;
 ghost use Rattle.grammar_laws.specs.StmtReading.{stmt_in};
 
-use crate::classes::{BEGIN, COLON, PROGRAM, SEMICOLON, VAR};
 use crate::stmts::compound;
 use dice_base::{Name, Text};
 use expression_parser::Cursor;
-use expression_parser::classes::{COMMA, IDENT, PERIOD};
+use expression_parser::classes::{BEGIN, COLON, COMMA, IDENT, PERIOD, PROGRAM, SEMICOLON, VAR};
 use grammar_laws::Stop;
 use pascal_tree::{Block, Decl, DeclKind, Stmt, StmtKind, Tree as Program, TypeText};
 use sqlite_items::Items;
@@ -18,7 +18,7 @@ use std::alloc::Global;
 // The identifier behind a comma, if one comes next.
 #[tactic(auto, unfolding(grammar_laws::specs::Parsers::behind))]
 fn next_ident(alloc: Global, tokens: &mut Cursor<'_>) -> Result<Option<Text>, Stop>
-    ensures { Reads (behind 94 parsers.ident tokens.old) result tokens.new }
+    ensures { Reads (behind comma_class parsers.ident tokens.old) result tokens.new }
 {
     match tokens.class() {
         COMMA => {
@@ -31,7 +31,7 @@ fn next_ident(alloc: Global, tokens: &mut Cursor<'_>) -> Result<Option<Text>, St
 
 #[tactic(auto, using(expression_parser::proofs::Turns::many_step, expression_parser::proofs::Turns::many_stop), unfolding(grammar_laws::specs::Parsers::separated))]
 fn idents(alloc: Global, tokens: &mut Cursor<'_>) -> Result<Items<Text>, Stop>
-    ensures { Reads (separated 94 parsers.ident tokens.old) result tokens.new }
+    ensures { Reads (separated comma_class parsers.ident tokens.old) result tokens.new }
 {
     let mut found = Items::new(alloc);
     found.push(tokens.ident(alloc)?)?;
@@ -87,10 +87,9 @@ fn var_decls(alloc: Global, tokens: &mut Cursor<'_>) -> Result<Items<Decl>, Stop
 fn vars_in(alloc: Global, tokens: &mut Cursor<'_>) -> Result<Items<Decl>, Stop>
     ensures { Reads (spec.vars_in tokens.old) result tokens.new }
 {
-    let first = var_decl(alloc, tokens)?;
-    let more = var_decls(alloc, tokens)?;
     let mut all = Items::new(alloc);
-    all.push(first)?;
+    all.push(var_decl(alloc, tokens)?)?;
+    let more = var_decls(alloc, tokens)?;
     all.append(more)?;
     Ok(all)
 }

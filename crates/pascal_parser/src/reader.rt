@@ -5,7 +5,7 @@ ghost use Rattle.pascal_tree.specs.declared.stmt.Stmt.{Stmt};
 ghost use Rattle.pascal_tree.specs.Programs.{Derives};
 ghost use Rattle.grammar_laws.specs.ProgramReading as read;
 ghost use Rattle.grammar_laws.specs.StmtReading.{stmt_in};
-ghost use Rattle.pascal_parser.specs.Whole.{kinds, DerivesStmt, ReadsAll, IsUnlessMemory, fault_of};
+ghost use Rattle.pascal_parser.specs.Whole.{kinds, DerivesStmt, ReadsWhole, IsUnlessMemory, fault_of};
 
 use crate::ParseFault;
 use crate::blocks::program;
@@ -23,7 +23,7 @@ const LEVELS: usize = 62;
 const STATEMENT_LEVELS: usize = 64;
 
 fn read_all(alloc: Global, tokens: &[Token]) -> Result<Program, Stop>
-    ensures { ReadsAll (read.program (stmt_in 62) (kinds tokens.now)) result }
+    ensures { ReadsWhole (read.program (stmt_in 62) (kinds tokens.now)) result }
 {
     let mut rest = Cursor::new(tokens);
     let found = program(alloc, &mut rest, LEVELS)?;
@@ -34,7 +34,7 @@ fn read_all(alloc: Global, tokens: &[Token]) -> Result<Program, Stop>
 }
 
 fn read_statement(alloc: Global, tokens: &[Token]) -> Result<Stmt, Stop>
-    ensures { ReadsAll (stmt_in 64 (kinds tokens.now)) result }
+    ensures { ReadsWhole (stmt_in 64 (kinds tokens.now)) result }
 {
     let mut rest = Cursor::new(tokens);
     let found = stmt_within(alloc, &mut rest, STATEMENT_LEVELS)?;
