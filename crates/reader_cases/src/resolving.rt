@@ -84,8 +84,14 @@ const PROGRAMS: [(&str, bool); 13] = [
     ("program p; begin end.", false),
     ("program p; var a: integer; begin c := 1 end.", false),
     ("program p; var a: integer; begin a := a - 1 end.", false),
-    ("program p; var a: integer; begin a := 1 + 1 + 1 end.", false),
-    ("program p; var a: integer; begin writeln(a : 0) end.", false),
+    (
+        "program p; var a: integer; begin a := 1 + 1 + 1 end.",
+        false,
+    ),
+    (
+        "program p; var a: integer; begin writeln(a : 0) end.",
+        false,
+    ),
     (
         "program p; var a: integer; begin writeln(a : 256) end.",
         false,

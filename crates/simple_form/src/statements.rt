@@ -89,7 +89,8 @@ fn push_leaf(
 ) -> Result<bool, NoMemory>
     requires { IfSome form IsForm }
     ensures value { IfOk result (λ is. IsAdded is (spec.leaf name.0 form) out.old.items out.new.items) }
-    ensures within { IfOk result (λ _. AllByRecursion (λ s. IsForm s.form) out.old.items → AllByRecursion (λ s. IsForm s.form) out.new.items) }
+    ensures within { IfOk result (λ _.
+        AllByRecursion (λ s. IsForm s.form) out.old.items → AllByRecursion (λ s. IsForm s.form) out.new.items) }
 {
     match form {
         Some(form) => {
@@ -109,8 +110,10 @@ fn push_kind(
     out: &mut Vec<Statement>,
 ) -> Result<bool, NoMemory>
     requires { length variables.now ≤ 64 }
-    ensures value { IfOk result (λ is. IsAdded is (spec.kind_leaves variables.now kind.now name.0) out.old.items out.new.items) }
-    ensures within { IfOk result (λ _. AllByRecursion (λ s. IsForm s.form) out.old.items → AllByRecursion (λ s. IsForm s.form) out.new.items) }
+    ensures value { IfOk result (λ is.
+        IsAdded is (spec.kind_leaves variables.now kind.now name.0) out.old.items out.new.items) }
+    ensures within { IfOk result (λ _.
+        AllByRecursion (λ s. IsForm s.form) out.old.items → AllByRecursion (λ s. IsForm s.form) out.new.items) }
 {
     match kind {
         StmtKind::Empty => push_leaf(name, Some(SimpleForm::Empty), out),
@@ -135,8 +138,10 @@ pub fn push_stmt(
     out: &mut Vec<Statement>,
 ) -> Result<bool, NoMemory>
     requires { length variables.now ≤ 64 }
-    ensures value { IfOk result (λ is. IsAdded is (spec.stmt_leaves variables.now stmt.now) out.old.items out.new.items) }
-    ensures within { IfOk result (λ _. AllByRecursion (λ s. IsForm s.form) out.old.items → AllByRecursion (λ s. IsForm s.form) out.new.items) }
+    ensures value { IfOk result (λ is.
+        IsAdded is (spec.stmt_leaves variables.now stmt.now) out.old.items out.new.items) }
+    ensures within { IfOk result (λ _.
+        AllByRecursion (λ s. IsForm s.form) out.old.items → AllByRecursion (λ s. IsForm s.form) out.new.items) }
 {
     if stmt.label.is_some() {
         return Ok(false);
@@ -151,8 +156,10 @@ fn push_stmts(
     out: &mut Vec<Statement>,
 ) -> Result<bool, NoMemory>
     requires { length variables.now ≤ 64 }
-    ensures value { IfOk result (λ is. IsAdded is (spec.stmts_leaves variables.now stmts.now) out.old.items out.new.items) }
-    ensures within { IfOk result (λ _. AllByRecursion (λ s. IsForm s.form) out.old.items → AllByRecursion (λ s. IsForm s.form) out.new.items) }
+    ensures value { IfOk result (λ is.
+        IsAdded is (spec.stmts_leaves variables.now stmts.now) out.old.items out.new.items) }
+    ensures within { IfOk result (λ _.
+        AllByRecursion (λ s. IsForm s.form) out.old.items → AllByRecursion (λ s. IsForm s.form) out.new.items) }
 {
     for stmt in stmts {
         if !push_stmt(variables, stmt, out)? {
