@@ -1,4 +1,5 @@
--- Which words begin a command. A command that is not built yet is refused as such, if what follows its word is of its form.
+-- Which words begin a command. A command that is not built yet is refused as such, if what follows its word is of its
+-- form.
 use Rattle.std.specs.Prelude.{ℕ, Bool, ◌||◌, if◌then◌else◌, List, bytes_eq, codes, None, Some}
 use Rattle.std.specs.declared.option.Option.{Option}
 use Rattle.dice_command.specs.declared.keyword.Arguments.TheVariants.{Nothing, Number, Text, Side, Identifier}

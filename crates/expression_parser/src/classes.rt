@@ -1,4 +1,4 @@
-//! The classes of tokens (pascal_tree, `class_of`), each derived from the number of its symbol, and the class of a token.
+//! The classes of tokens (pascal_tree, `class_of`), each derived from the number of its symbol.
 ghost use Rattle.std.specs.Prelude.{◌≡◌};
 ghost use Rattle.pascal_tree.specs.Tokens.{class_of};
 

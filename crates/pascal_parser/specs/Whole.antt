@@ -1,4 +1,4 @@
--- What a reader of all the tokens answers. The grammar is that of ISO 7185:1990, 6.8 and 6.10, as pascal_tree states it.
+-- What a reader of all the tokens answers. The grammar is that of ISO 7185:1990, 6.8 and 6.10, as pascal_tree says.
 use Rattle.std.specs.Prelude.{◌≡◌, List, [], map, Result, Ok, Err}
 use Rattle.dice_base.specs.declared.token.Token.{Token}
 use Rattle.pascal_tree.specs.declared.stmt.Stmt.{Stmt}

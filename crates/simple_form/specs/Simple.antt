@@ -1,6 +1,6 @@
 -- Simple programs, and what their identifiers stand for (ISO 7185:1990, 6.2.2 scopes, 6.5.1 variables, 6.8.2.2
--- assignment, 6.9.4 writeln). What is not simple has no answer. Each function
--- answers for one alternative of the grammar, and None where that is not built.
+-- assignment, 6.9.4 writeln). Each function answers for one alternative of the grammar, and None where that is not
+-- built.
 use Rattle.std.specs.Prelude.{◌≡◌, ℕ, Bool, true, false, ◌&&◌, not, nat_le, if◌then◌else◌, List, [], ◌∷◌, ◌++◌, length, Option, Some, None, is_some, unwrap_or, codes, bytes_eq, map}
 use Rattle.dice_base.specs.Lexemes.{place_of}
 use Rattle.pascal_tree.specs.declared.expr.Prefix.{Prefix}
