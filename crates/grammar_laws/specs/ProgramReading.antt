@@ -3,7 +3,7 @@
 use Rattle.std.specs.Prelude.{List, [], ◌∷◌, Option, Some, None}
 use Rattle.pascal_tree.specs.declared.decl.Decl.{Decl}
 use Rattle.pascal_tree.specs.declared.decl.Block.{Block}
-use Rattle.pascal_tree.specs.declared.program.Tree.{Tree as Program}
+use Rattle.pascal_tree.specs.declared.program.Tree.{Tree}
 use Rattle.pascal_tree.specs.declared.stmt.Stmt.{Stmt}
 use Rattle.pascal_tree.specs.declared.stmt.StmtKind.{StmtKind}
 use Rattle.pascal_tree.specs.Classes.{begin_class, program_class, var_class, ident_class, period_class, comma_class, semicolon_class, colon_class}
@@ -46,7 +46,7 @@ module _ (stmt : Parser Stmt) where
     b ← body
     pure (make_block ds b)
 
-  unfoldable pub program : Parser Program
+  unfoldable pub program : Parser Tree
   program = do
     expect program_class
     x ← ident

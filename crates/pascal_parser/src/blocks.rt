@@ -11,7 +11,7 @@ use dice_base::{Name, Text};
 use expression_parser::Cursor;
 use expression_parser::classes::{BEGIN, COLON, COMMA, IDENT, PERIOD, PROGRAM, SEMICOLON, VAR};
 use grammar_laws::Stop;
-use pascal_tree::{Block, Decl, DeclKind, Stmt, StmtKind, Tree as Program, TypeText};
+use pascal_tree::{Block, Decl, DeclKind, Stmt, StmtKind, Tree, TypeText};
 use sqlite_items::Items;
 use std::alloc::Global;
 
@@ -137,7 +137,7 @@ fn block(alloc: Global, tokens: &mut Cursor<'_>, depth: usize) -> Result<Block, 
 
 /// A program in whose body's statements this many levels may nest.
 #[tactic(auto, unfolding(grammar_laws::specs::ProgramReading::program))]
-pub fn program(alloc: Global, tokens: &mut Cursor<'_>, depth: usize) -> Result<Program, Stop>
+pub fn program(alloc: Global, tokens: &mut Cursor<'_>, depth: usize) -> Result<Tree, Stop>
     ensures { Reads (spec.program (stmt_in depth) tokens.old) result tokens.new }
 {
     tokens.expect(PROGRAM)?;
@@ -145,7 +145,7 @@ pub fn program(alloc: Global, tokens: &mut Cursor<'_>, depth: usize) -> Result<P
     tokens.expect(SEMICOLON)?;
     let block = block(alloc, tokens, depth)?;
     tokens.expect(PERIOD)?;
-    Ok(Program {
+    Ok(Tree {
         ident,
         files: Items::new(alloc),
         block,

@@ -1,6 +1,6 @@
 //! All the tokens, as one program or one statement.
 ghost use Rattle.std.specs.Prelude.{◌≡◌, map, IfOk};
-ghost use Rattle.pascal_tree.specs.declared.program.Tree.{Tree as Program};
+ghost use Rattle.pascal_tree.specs.declared.program.Tree.{Tree};
 ghost use Rattle.pascal_tree.specs.declared.stmt.Stmt.{Stmt};
 ghost use Rattle.pascal_tree.specs.Programs.{Derives};
 ghost use Rattle.grammar_laws.specs.ProgramReading as read;
@@ -13,7 +13,7 @@ use crate::stmts::stmt_within;
 use dice_base::Token;
 use expression_parser::Cursor;
 use grammar_laws::Stop;
-use pascal_tree::{Stmt, Tree as Program};
+use pascal_tree::{Stmt, Tree};
 use std::alloc::Global;
 
 // The program is at level 1, its body at level 2, so the body's statements have 62 levels of the 64.
@@ -22,7 +22,7 @@ const LEVELS: usize = 62;
 // A statement that stands by itself is at level 1, so all 64 levels are its own.
 const STATEMENT_LEVELS: usize = 64;
 
-fn read_all(alloc: Global, tokens: &[Token]) -> Result<Program, Stop>
+fn read_all(alloc: Global, tokens: &[Token]) -> Result<Tree, Stop>
     ensures { ReadsWhole (read.program (stmt_in 62) (kinds tokens.now)) result }
 {
     let mut rest = Cursor::new(tokens);
@@ -57,11 +57,11 @@ fn fault_of(stop: Stop) -> ParseFault
 }
 
 /// The program of at most 64 levels that the tokens are. Its items have no names yet.
-pub fn parse_program(alloc: Global, tokens: &[Token]) -> Result<Program, ParseFault>
+pub fn parse_program(alloc: Global, tokens: &[Token]) -> Result<Tree, ParseFault>
     // What is read derives the tokens.
     ensures found { IfOk result (λ tree. Derives tree (kinds tokens.now)) }
     // What derives the tokens is read, unless memory runs out; so `NoReading` comes where nothing derives them.
-    ensures only { (tree : Program) → Derives tree (kinds tokens.now) → IsUnlessMemory result tree }
+    ensures only { (tree : Tree) → Derives tree (kinds tokens.now) → IsUnlessMemory result tree }
 {
     match read_all(alloc, tokens) {
         Ok(tree) => Ok(tree),

@@ -2,7 +2,7 @@
 use dice_base::{NoMemory, Text, push_decimal};
 use pascal_parser::{parse_program, parse_statement};
 use pascal_scanner::scan;
-use pascal_tree::{Program, Stmt, StmtKind};
+use pascal_tree::{Stmt, StmtKind, Tree};
 use std::alloc::Global;
 use std::test::Fail;
 
@@ -121,7 +121,7 @@ fn describe_all(alloc: Global, stmts: &[Stmt], out: &mut Text) -> Result<(), NoM
     out.push(alloc, b')')
 }
 
-fn describe_program(alloc: Global, program: &Program, out: &mut Text) -> Result<(), NoMemory> {
+fn describe_program(alloc: Global, program: &Tree, out: &mut Text) -> Result<(), NoMemory> {
     for decl in program.block.vars.as_slice() {
         push_decimal(alloc, out, u64::from(decl.name.0))?;
         out.push(alloc, b' ')?;

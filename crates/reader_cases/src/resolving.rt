@@ -3,7 +3,7 @@ use dice_base::{NoMemory, Token};
 use pascal_parser::{parse_program, parse_statement};
 use pascal_scanner::scan;
 use pascal_semantics::{Operand, SimpleForm, Statement, Sum};
-use pascal_tree::Program as Tree;
+use pascal_tree::Tree;
 use program_tree::Program;
 use simple_form::{is_built, resolve_program};
 use std::alloc::Global;
