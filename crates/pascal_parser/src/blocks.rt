@@ -1,6 +1,7 @@
 //! Declarations, blocks and programs.
-ghost use Rattle.std.specs.Prelude.{◌≡◌};
+ghost use Rattle.std.specs.Prelude.{◌≡◌, IfOk};
 ghost use Rattle.pascal_tree.specs.Classes.{comma_class};
+ghost use Rattle.pascal_tree.specs.Programs.{make_program};
 ghost use Rattle.grammar_laws.specs.Parsers as parsers;
 ghost use Rattle.grammar_laws.specs.Parsers.{Reads, separated, behind};
 ghost use Rattle.grammar_laws.specs.ProgramReading as spec;
@@ -12,8 +13,8 @@ use expression_parser::Cursor;
 use expression_parser::classes::{BEGIN, COLON, COMMA, IDENT, PERIOD, PROGRAM, SEMICOLON, VAR};
 use grammar_laws::Stop;
 use pascal_tree::{Block, Decl, DeclKind, Stmt, StmtKind, Tree, TypeText};
-use sqlite_items::Items;
-use std::alloc::Global;
+use sqlite_items::{Boxed, Items};
+use std::alloc::{AllocError, Global};
 
 // The identifier behind a comma, if one comes next.
 #[tactic(auto, unfolding(grammar_laws::specs::Parsers::behind))]
@@ -135,20 +136,28 @@ fn block(alloc: Global, tokens: &mut Cursor<'_>, depth: usize) -> Result<Block, 
     })
 }
 
-/// A program in whose body's statements this many levels may nest.
+fn boxed_tree(alloc: Global, ident: Text, block: Block) -> Result<Boxed<Tree>, AllocError>
+    ensures { IfOk result (λ tree. tree ≡ make_program ident block) }
+{
+    let tree = Tree {
+        ident,
+        files: Items::new(alloc),
+        block,
+        next: 0,
+    };
+    Boxed::new(alloc, tree)
+}
+
+/// A program in whose body's statements this many levels may nest. It stands in a box, since so large a value is costly to
+/// prove dropped where reading stops behind it.
 #[tactic(auto, unfolding(grammar_laws::specs::ProgramReading::program))]
-pub fn program(alloc: Global, tokens: &mut Cursor<'_>, depth: usize) -> Result<Tree, Stop>
+pub fn program(alloc: Global, tokens: &mut Cursor<'_>, depth: usize) -> Result<Boxed<Tree>, Stop>
     ensures { Reads (spec.program (stmt_in depth) tokens.old) result tokens.new }
 {
     tokens.expect(PROGRAM)?;
     let ident = tokens.ident(alloc)?;
     tokens.expect(SEMICOLON)?;
-    let block = block(alloc, tokens, depth)?;
+    let tree = boxed_tree(alloc, ident, block(alloc, tokens, depth)?)?;
     tokens.expect(PERIOD)?;
-    Ok(Tree {
-        ident,
-        files: Items::new(alloc),
-        block,
-        next: 0,
-    })
+    Ok(tree)
 }

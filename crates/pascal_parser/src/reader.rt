@@ -14,6 +14,7 @@ use dice_base::Token;
 use expression_parser::Cursor;
 use grammar_laws::Stop;
 use pascal_tree::{Stmt, Tree};
+use sqlite_items::Boxed;
 use std::alloc::Global;
 
 // The program is at level 1, its body at level 2, so the body's statements have 62 levels of the 64.
@@ -30,16 +31,16 @@ fn read_all(alloc: Global, tokens: &[Token]) -> Result<Tree, Stop>
     if rest.len() > 0 {
         return Err(rest.refuse());
     }
-    Ok(found)
+    Ok(found.into_inner())
 }
 
 fn read_statement(alloc: Global, tokens: &[Token]) -> Result<Stmt, Stop>
     ensures { ReadsWhole (stmt_in 64 (kinds tokens.now)) result }
 {
     let mut rest = Cursor::new(tokens);
-    let found = stmt_within(alloc, &mut rest, STATEMENT_LEVELS)?;
+    let found = Boxed::new(alloc, stmt_within(alloc, &mut rest, STATEMENT_LEVELS)?)?;
     if rest.len() == 0 {
-        Ok(found)
+        Ok(found.into_inner())
     } else {
         Err(rest.refuse())
     }
