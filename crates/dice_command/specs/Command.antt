@@ -1,4 +1,4 @@
--- Which command a line is.
+-- Which command a line is. The faults are tried in this order: length, bytes, first word, number of words, number.
 use Rattle.std.specs.Prelude.{ℕ, ◌≤◌, Bool, true, ◌&&◌, ◌||◌, nat_lt, if◌then◌else◌, List, length, bytes_eq, codes, Option, None, Some}
 use Rattle.pascal_scanner.specs.Longest.{past}
 use Rattle.dice_command.specs.Words.{is_blank, is_text_byte, every, is_empty, word_of, after_word, number_of, is_identifier}
@@ -12,7 +12,7 @@ use Rattle.dice_command.specs.declared.command.CommandFault.TheVariants.{LineToo
 use Rattle.dice_command.specs.declared.command.LineCommand.{LineCommand}
 use Rattle.dice_command.specs.declared.command.LineCommand.TheVariants as line
 
--- what a line asks for
+-- what a line asks for, with a text in place of the bytes that it borrows
 pub data Asked : Type 0 where
   Blank : Asked
   Load : Asked
@@ -46,13 +46,16 @@ IsWellRead other = Unit {0}
 abbrev pub alone : Asked → List ℕ → Asked
 alone command rest = if is_empty (word_of rest) then command else Bad NotACommand
 
-abbrev pub numbered : (ℕ → Asked) → Option ℕ → Asked
-numbered command None = Bad BadNumber
-numbered command (Some n) = command n
+-- a command that is told a number
+abbrev pub with_number : (ℕ → Asked) → Option ℕ → Asked
+with_number command None = Bad BadNumber
+with_number command (Some n) = command n
 
 -- a run is told one number, and no more words
 abbrev pub one_number : List ℕ → Asked
-one_number rest = if is_empty (word_of (after_word rest)) then numbered Run (number_of (word_of rest)) else Bad NotACommand
+one_number rest =
+    if is_empty (word_of (after_word rest)) then with_number Run (number_of (word_of rest))
+    else Bad NotACommand
 
 -- what stands behind the first word and the blanks behind it, with the blanks at the end of the line
 abbrev pub text_of : List ℕ → List ℕ
@@ -60,8 +63,9 @@ text_of rest = past is_blank (after_word rest)
 
 -- a statement is replaced by a text, which may be empty
 abbrev pub number_and_text : List ℕ → Asked
-number_and_text rest = numbered (λ n. Replace n (text_of rest)) (number_of (word_of rest))
+number_and_text rest = with_number (λ n. Replace n (text_of rest)) (number_of (word_of rest))
 
+-- where a statement is inserted
 abbrev pub is_side : List ℕ → Bool
 is_side word = bytes_eq word (codes "before") || (bytes_eq word (codes "after") || bytes_eq word (codes "first"))
 
@@ -73,6 +77,7 @@ fits Text rest = true
 fits Side rest = is_side (word_of rest)
 fits Identifier rest = is_identifier (word_of rest) && is_empty (word_of (after_word (after_word rest)))
 
+-- a command by its first word and what stands behind it
 abbrev pub by_keyword : Keyword → List ℕ → Asked
 by_keyword keyword.Load rest = alone Load rest
 by_keyword keyword.List rest = alone Listing rest
@@ -82,6 +87,7 @@ by_keyword keyword.Run rest = one_number rest
 by_keyword keyword.Quit rest = alone Quit rest
 by_keyword (keyword.Unbuilt arguments) rest = if fits arguments rest then Unbuilt else Bad NotACommand
 
+-- the same, where the first word may be none that begins a command
 abbrev pub with_arguments : Option Keyword → List ℕ → Asked
 with_arguments None rest = Bad NotACommand
 with_arguments (Some keyword) rest = by_keyword keyword rest

@@ -1,4 +1,4 @@
--- The words of a line. Bytes are those of ASCII.
+-- The words of a line: what stands between blanks. Bytes are those of ASCII (RFC 20).
 use Rattle.std.specs.Prelude.{ℕ, Bool, true, false, not, ◌&&◌, ◌||◌, ◌==◌, nat_le, if◌then◌else◌, List, [], ◌∷◌, None, Some}
 use Rattle.std.specs.declared.option.Option.{Option}
 use Rattle.dice_base.specs.Lexemes.{class, is_letter, digit_byte, word_byte, value_of}
@@ -8,6 +8,7 @@ use Rattle.pascal_scanner.specs.Longest.{front, past}
 abbrev pub is_blank : ℕ → Bool
 is_blank b = b == 32 || b == 9
 
+-- any other byte; which of them a line may have is asked of the whole line
 abbrev pub is_word_byte : ℕ → Bool
 is_word_byte b = not (is_blank b)
 
@@ -15,6 +16,7 @@ is_word_byte b = not (is_blank b)
 abbrev pub is_text_byte : ℕ → Bool
 is_text_byte b = b == 9 || (nat_le 32 b && nat_le b 126)
 
+-- all elements pass
 abbrev pub every : (ℕ → Bool) → List ℕ → Bool
 every p [] = true
 every p (b ∷ bs) = p b && every p bs
@@ -32,7 +34,9 @@ after_word text = past is_word_byte (past is_blank text)
 
 -- a number is decimal digits with a value from 1 to 1,000,000
 abbrev pub number_of : List ℕ → Option ℕ
-number_of word = if every digit_byte word && (nat_le 1 (value_of word) && nat_le (value_of word) 1000000) then Some (value_of word) else None
+number_of word =
+    if every digit_byte word && (nat_le 1 (value_of word) && nat_le (value_of word) 1000000)
+    then Some (value_of word) else None
 
 -- a letter, and then letters and digits
 abbrev pub is_identifier : List ℕ → Bool

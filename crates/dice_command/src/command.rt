@@ -9,7 +9,7 @@ use crate::words::{after_word, is_identifier, is_text, number_of, past_blanks, w
 const LONGEST_LINE: usize = 4096;
 
 /// What is wrong with a line.
-#[derive(Clone, Copy, Debug, PartialEq, Eq)]
+#[derive(Clone, Copy, PartialEq, Eq)]
 pub enum CommandFault {
     /// It has more than 4,096 bytes.
     LineTooLong,
@@ -21,7 +21,7 @@ pub enum CommandFault {
 }
 
 /// What a line asks for.
-#[derive(Clone, Copy, Debug, PartialEq, Eq)]
+#[derive(Clone, Copy, PartialEq, Eq)]
 pub enum LineCommand<'a> {
     /// Nothing: the line is empty, or all of it is spaces and tabs.
     Blank,

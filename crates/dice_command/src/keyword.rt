@@ -3,7 +3,7 @@ ghost use Rattle.std.specs.Prelude.{◌≡◌};
 ghost use Rattle.dice_command.specs.Keyword.{keyword_of, unbuilt_keyword, takes_nothing, takes_number, takes_text};
 
 /// What follows the first word of a command that is not built yet.
-#[derive(Clone, Copy, Debug, PartialEq, Eq)]
+#[derive(Clone, Copy)]
 pub enum Arguments {
     /// Nothing.
     Nothing,
@@ -18,7 +18,7 @@ pub enum Arguments {
 }
 
 /// What the first word of a command asks for.
-#[derive(Clone, Copy, Debug, PartialEq, Eq)]
+#[derive(Clone, Copy)]
 pub enum Keyword {
     Load,
     List,

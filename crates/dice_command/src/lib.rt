@@ -3,8 +3,6 @@
 
 mod command;
 mod keyword;
-#[cfg(test)]
-mod tests;
 mod words;
 
 pub use command::{CommandFault, LineCommand, parse_command};

@@ -132,15 +132,18 @@ pub(crate) fn number_of(word: &[u8]) -> Option<u32>
 // The value of digits, where it is 1 to 1,000,000.
 fn small_value(digits: &[u8]) -> Option<u32>
     ensures range { IfSome result (λ n. (1 ≤ n) × (n ≤ 1000000)) }
-    ensures value { result ≡ (if nat_le 1 (value_of digits.now) && nat_le (value_of digits.now) 1000000 then Some (value_of digits.now) else None) }
+    ensures value { result ≡ (if nat_le 1 (value_of digits.now) && nat_le (value_of digits.now) 1000000
+        then Some (value_of digits.now) else None) }
 {
     let value = capped_value(digits)?;
     if value == 0 { None } else { Some(value) }
 }
 
+// The value of digits, where it is at most 1,000,000.
 fn capped_value(digits: &[u8]) -> Option<u32>
     ensures range { IfSome result (λ n. n ≤ 1000000) }
-    ensures value { result ≡ (if nat_le (value_of digits.now) 1000000 then Some (value_of digits.now) else None) }
+    ensures value { result ≡ (if nat_le (value_of digits.now) 1000000
+        then Some (value_of digits.now) else None) }
 {
     let mut value: u32 = 0;
     for digit in digits {

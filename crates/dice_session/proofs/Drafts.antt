@@ -11,7 +11,7 @@ use Rattle.pascal_semantics.specs.Charge.{program_charge, charges_of}
 use Rattle.pascal_semantics.specs.State.{Status, NotStarted, Halted, Ended, Failed, loaded_state}
 use Rattle.pascal_semantics.specs.Valid.{IsProgram, code_room}
 use Rattle.pascal_print.specs.Listing.{listing}
-use Rattle.simple_form.specs.Simple.{resolved, variables_in, is_built}
+use Rattle.simple_form.specs.Simple.{resolution_of, variables_in, is_built}
 use Rattle.tree_edit.specs.declared.fault.EditFault.{EditFault}
 use Rattle.tree_edit.specs.Edited.{replaced_program}
 use Rattle.dice_session.specs.Reading.{OneStatement}
@@ -38,10 +38,10 @@ edit-none w name x before after s machine h none told = subst (λ d. Became (edi
 pub apply-none : (w : World) (before after : List ℕ) (s : Session) (machine : MachineState) → Lives w s machine → s.draft ≡ None → after ≡ before ++ line (codes "no program") → Became (applied_in w.draft w) before after s machine
 apply-none w before after s machine h none told = subst (λ d. Became (applied_in d w) before after s machine) (sym none ∙ h.draft) (record { told = told; lives = h })
 
-pub apply-some : (w : World) (p : Tree) (before after : List ℕ) (s t : Session) (machine now : MachineState) → Lives w s machine → s.draft ≡ Some p → Became (applied_by (resolved p) w p) before after t now → Became (applied_in w.draft w) before after t now
+pub apply-some : (w : World) (p : Tree) (before after : List ℕ) (s t : Session) (machine now : MachineState) → Lives w s machine → s.draft ≡ Some p → Became (applied_by (resolution_of p) w p) before after t now → Became (applied_in w.draft w) before after t now
 apply-some w p before after s t machine now h some became = subst (λ d. Became (applied_in d w) before after t now) (sym some ∙ h.draft) became
 
-pub apply-unbuilt : (w : World) (p : Tree) (before after : List ℕ) (s : Session) (machine : MachineState) → Lives w s machine → resolved p ≡ None → after ≡ before ++ line (codes "not built") → Became (applied_by (resolved p) w p) before after s machine
+pub apply-unbuilt : (w : World) (p : Tree) (before after : List ℕ) (s : Session) (machine : MachineState) → Lives w s machine → resolution_of p ≡ None → after ≡ before ++ line (codes "not built") → Became (applied_by (resolution_of p) w p) before after s machine
 apply-unbuilt w p before after s machine h none told = subst (λ r. Became (applied_by r w p) before after s machine) (sym none) (record { told = told; lives = h })
 
 -- ---- edits
@@ -93,7 +93,7 @@ edit-refused w name x p fault before after s machine h some is told =
 -- ---- a program is loaded
 
 -- the machine was made ready, and the statements are those of the present program
-pub begun-became : (w : World) (p : Tree) (ss : List Statement) (before after : List ℕ) (s t : Session) (machine now : MachineState) → Lives w s machine → w.mode ≡ Commands → resolved p ≡ Some ss → IsProgram ss
+pub begun-became : (w : World) (p : Tree) (ss : List Statement) (before after : List ℕ) (s t : Session) (machine now : MachineState) → Lives w s machine → w.mode ≡ Commands → resolution_of p ≡ Some ss → IsProgram ss
     → t.over ≡ s.over → t.text ≡ s.text → t.draft ≡ s.draft → t.progress ≡ progress.NotStarted → option_map (λ v. v.items) t.program ≡ Some ss → t.console.output ≡ []
     → StandsFor ss loaded_state now → after ≡ before ++ loaded_reply ss → Became (with_program w p, loaded_reply ss) before after t now
 begun-became w p ss before after s t machine now h commands is program over text draft progress statements drained stands told = record {
@@ -138,20 +138,20 @@ stopped-is w s machine h = ap is_halted h.progress ∙ halted-by w.state.status
 abbrev applied : World → Tree → List Statement → World × List ℕ
 applied w p ss = if_fits ss w (applied_to w p ss)
 
-pub apply-full : (w : World) (p : Tree) (ss : List Statement) (before after : List ℕ) (words : ℕ) (s : Session) (machine : MachineState) → Lives w s machine → resolved p ≡ Some ss → words ≡ program_charge + charges_of ss → code_room < words
-    → after ≡ before ++ line (full_words words) → Became (applied_by (resolved p) w p) before after s machine
+pub apply-full : (w : World) (p : Tree) (ss : List Statement) (before after : List ℕ) (words : ℕ) (s : Session) (machine : MachineState) → Lives w s machine → resolution_of p ≡ Some ss → words ≡ program_charge + charges_of ss → code_room < words
+    → after ≡ before ++ line (full_words words) → Became (applied_by (resolution_of p) w p) before after s machine
 apply-full w p ss before after words s machine h is sum large told =
     subst (λ r. Became (applied_by r w p) before after s machine) (sym is) (full-became w ss (applied_to w p ss) before after words s machine h sum large told)
 
-pub apply-halted : (w : World) (p : Tree) (ss : List Statement) (before after : List ℕ) (s : Session) (machine : MachineState) → Lives w s machine → resolved p ≡ Some ss → program_charge + charges_of ss ≤ code_room → is_halted s.progress ≡ true
-    → after ≡ before ++ line (codes "not built") → Became (applied_by (resolved p) w p) before after s machine
+pub apply-halted : (w : World) (p : Tree) (ss : List Statement) (before after : List ℕ) (s : Session) (machine : MachineState) → Lives w s machine → resolution_of p ≡ Some ss → program_charge + charges_of ss ≤ code_room → is_halted s.progress ≡ true
+    → after ≡ before ++ line (codes "not built") → Became (applied_by (resolution_of p) w p) before after s machine
 apply-halted w p ss before after s machine h is fits halted told =
     subst (λ r. Became (applied_by r w p) before after s machine) (sym is)
     (subst (λ next. Became next before after s machine) (sym (fitting ss w (applied_to w p ss) fits))
     (subst (λ b. Became (if b then refused w (codes "not built") else (with_program w p, loaded_reply ss)) before after s machine) (sym (sym (stopped-is w s machine h) ∙ halted)) (record { told = told; lives = h })))
 
-pub apply-done : (w : World) (p : Tree) (ss : List Statement) (before after : List ℕ) (s t : Session) (machine now : MachineState) → Lives w s machine → resolved p ≡ Some ss → program_charge + charges_of ss ≤ code_room → is_halted s.progress ≡ false
-    → Became (with_program w p, loaded_reply ss) before after t now → Became (applied_by (resolved p) w p) before after t now
+pub apply-done : (w : World) (p : Tree) (ss : List Statement) (before after : List ℕ) (s t : Session) (machine now : MachineState) → Lives w s machine → resolution_of p ≡ Some ss → program_charge + charges_of ss ≤ code_room → is_halted s.progress ≡ false
+    → Became (with_program w p, loaded_reply ss) before after t now → Became (applied_by (resolution_of p) w p) before after t now
 apply-done w p ss before after s t machine now h is fits going became =
     subst (λ r. Became (applied_by r w p) before after t now) (sym is)
     (subst (λ next. Became next before after t now) (sym (fitting ss w (applied_to w p ss) fits))

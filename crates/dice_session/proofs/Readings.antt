@@ -9,15 +9,15 @@ use Rattle.pascal_tree.specs.declared.program.Tree.{Tree}
 use Rattle.pascal_tree.specs.Programs.{Derives}
 use Rattle.pascal_tree.specs.Naming.{numbered_program}
 use Rattle.pascal_parser.specs.Whole.{DerivesStmt}
-use Rattle.simple_form.specs.Simple.{resolved}
+use Rattle.simple_form.specs.Simple.{resolution_of}
 use Rattle.dice_session.specs.Reading.{Reading, TooLong, NotBuilt, Program, AreProgram, IsReading, Substitute, NoStatement, OneStatement, IsSubstitute}
 use Rattle.dice_session.specs.Readings.{IsReadingOf, IsReadingBy, IsSubstituteOf}
 
 -- a tree that was read, and what it resolves to once it is named
-pub tree-not-built : (tokens : List TokenKind) (tree : Tree) → resolved (numbered_program tree) ≡ None
+pub tree-not-built : (tokens : List TokenKind) (tree : Tree) → resolution_of (numbered_program tree) ≡ None
     → ((other : Tree) → Derives other tokens → tree ≡ other) → (p : Tree) → AreProgram tokens p → ⊥
 tree-not-built tokens tree e only p a =
-    let none : is_some (resolved p) ≡ is_some (resolved (numbered_program tree)) = ap (λ q. is_some (resolved q)) (a.named ∙ ap numbered_program (sym (only a.tree a.derives))) in
+    let none : is_some (resolution_of p) ≡ is_some (resolution_of (numbered_program tree)) = ap (λ q. is_some (resolution_of q)) (a.named ∙ ap numbered_program (sym (only a.tree a.derives))) in
     absurd (cc (sym a.built ∙ none ∙ ap is_some e))
 
 pub tree-reading : (tokens : List TokenKind) (tree : Tree) (r : Reading) → Derives tree tokens → ((other : Tree) → Derives other tokens → tree ≡ other) → IsReadingBy tree r → IsReadingOf tokens r

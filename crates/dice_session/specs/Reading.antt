@@ -8,7 +8,7 @@ use Rattle.pascal_tree.specs.declared.stmt.Stmt.{Stmt}
 use Rattle.pascal_tree.specs.Programs.{Derives}
 use Rattle.pascal_tree.specs.Naming.{numbered_program}
 use Rattle.pascal_parser.specs.Whole.{DerivesStmt}
-use Rattle.simple_form.specs.Simple.{resolved}
+use Rattle.simple_form.specs.Simple.{resolution_of}
 
 -- the tokens are a program of the grammar and of the forms that are built, whose items are named in the order of the
 -- text
@@ -16,7 +16,7 @@ pub record AreProgram (tokens : List TokenKind) (p : Tree) : Type 0 where
   pub tree : Tree
   pub derives : Derives tree tokens
   pub named : p ≡ numbered_program tree
-  pub built : is_some (resolved p) ≡ true
+  pub built : is_some (resolution_of p) ≡ true
 
 -- the text is this program
 pub record IsTextOf (text : List ℕ) (p : Tree) : Type 0 where

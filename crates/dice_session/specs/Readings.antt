@@ -7,7 +7,7 @@ use Rattle.pascal_tree.specs.declared.program.Tree.{Tree}
 use Rattle.pascal_tree.specs.declared.stmt.Stmt.{Stmt}
 use Rattle.pascal_tree.specs.Tokens.{Toks}
 use Rattle.pascal_tree.specs.Naming.{numbered_program}
-use Rattle.simple_form.specs.Simple.{resolved}
+use Rattle.simple_form.specs.Simple.{resolution_of}
 use Rattle.pascal_parser.specs.Whole.{DerivesStmt}
 use Rattle.dice_session.specs.Reading.{Reading, TooLong, NotBuilt, Program, AreProgram, Substitute, NoStatement, OneStatement}
 use Rattle.dice_session.specs.declared.reading.Found.{Found}
@@ -27,7 +27,7 @@ pub record AreNamed (ss : List Statement) : Type 0 where
 
 -- the statements of a program that was read
 pub record AreStatements (p : Tree) (ss : List Statement) : Type 0 where
-  pub resolves : resolved p ≡ Some ss
+  pub resolves : resolution_of p ≡ Some ss
   pub named : AreNamed ss
 
 abbrev pub HasFound : Found → Type 0
@@ -44,8 +44,8 @@ IsReadingOf tokens (Program p) = AreProgram tokens p
 -- what a tree is, once its items are named
 abbrev pub IsReadingBy : Tree → Reading → Type 0
 IsReadingBy tree TooLong = ⊥
-IsReadingBy tree NotBuilt = resolved (numbered_program tree) ≡ None
-IsReadingBy tree (Program p) = (p ≡ numbered_program tree) × (is_some (resolved p) ≡ true)
+IsReadingBy tree NotBuilt = resolution_of (numbered_program tree) ≡ None
+IsReadingBy tree (Program p) = (p ≡ numbered_program tree) × (is_some (resolution_of p) ≡ true)
 
 abbrev pub substitute_of : Option Stmt → Substitute
 substitute_of None = NoStatement

@@ -9,7 +9,7 @@ use Rattle.pascal_semantics.specs.Program.{program_of}
 use Rattle.pascal_semantics.specs.State.{Status, NotStarted, Halted, Ended, Failed, Activation, State, loaded_state}
 use Rattle.pascal_semantics.specs.Run.{run_of}
 use Rattle.pascal_semantics.specs.Valid.{code_room}
-use Rattle.simple_form.specs.Simple.{resolved, variables_in, is_built}
+use Rattle.simple_form.specs.Simple.{resolution_of, variables_in, is_built}
 use Rattle.tree_edit.specs.declared.fault.EditFault.{EditFault}
 use Rattle.tree_edit.specs.declared.fault.EditFault.TheVariants as edit
 use Rattle.tree_edit.specs.Edited.{replaced_program}
@@ -123,7 +123,7 @@ or_none None = []
 or_none (Some ss) = ss
 
 abbrev pub statements_of : Tree → List Statement
-statements_of p = or_none (resolved p)
+statements_of p = or_none (resolution_of p)
 
 -- a run of the present program, if there is one
 abbrev pub run_in : Option Tree → ℕ → World → World × List ℕ
@@ -172,7 +172,7 @@ applied_by (Some ss) w p = if_fits ss w (applied_to w p ss)
 
 abbrev pub applied_in : Option Tree → World → World × List ℕ
 applied_in None w = refused w (codes "no program")
-applied_in (Some p) w = applied_by (resolved p) w p
+applied_in (Some p) w = applied_by (resolution_of p) w p
 
 abbrev pub fault_text : CommandFault → List ℕ
 fault_text LineTooLong = codes "line too long"

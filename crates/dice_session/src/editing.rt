@@ -1,8 +1,8 @@
 //! The draft: its listing, its edits, and how it becomes the present program.
 ghost use Rattle.std.specs.Prelude.{◌≡◌, ◌≤◌, ◌++◌, ℕ, List, length, Some, OnOk};
 ghost use Rattle.pascal_tree.specs.declared.program.Tree.{Tree};
-ghost use Rattle.simple_form.specs.Simple.{resolved};
 ghost use Rattle.pdp11_machine.specs.State.{MachineState};
+ghost use Rattle.simple_form.specs.Simple.{resolution_of};
 ghost use Rattle.dice_command.specs.Command.{Replace};
 ghost use Rattle.dice_session.specs.Reading.{OneStatement};
 ghost use Rattle.dice_session.specs.Readings.{AreNamed};
@@ -104,8 +104,8 @@ impl Session {
         out: &mut Text,
     ) -> Result<(), NoMemory>
         requires { AreNamed statements.items }
-        ensures { OnOk result ((w : World) (p : Tree) → Lives w self.old machine.old → w.mode ≡ Commands → resolved p ≡ Some statements.items
-            → Became (applied_by (resolved p) w p) out.old out.new self.new machine.new) }
+        ensures { OnOk result ((w : World) (p : Tree) → Lives w self.old machine.old → w.mode ≡ Commands → resolution_of p ≡ Some statements.items
+            → Became (applied_by (resolution_of p) w p) out.old out.new self.new machine.new) }
     {
         let words = code_words(&statements);
         if words > CODE_ROOM {

@@ -3,7 +3,7 @@ ghost use Rattle.std.specs.Prelude.{◌≡◌, ◌≤◌, ◌++◌, ℕ, List, [
 ghost use Rattle.pdp11_machine.specs.State.{MachineState, zero_machine};
 ghost use Rattle.script_lines.specs.Front.{SameFront};
 ghost use Rattle.pascal_tree.specs.declared.program.Tree.{Tree};
-ghost use Rattle.simple_form.specs.Simple.{resolved};
+ghost use Rattle.simple_form.specs.Simple.{resolution_of};
 ghost use Rattle.pascal_semantics.specs.Valid.{IsProgram};
 ghost use Rattle.dice_command.specs.Command.{asked, Blank, Load, Quit, IsWellRead};
 ghost use Rattle.dice_session.specs.Readings.{AreNamed, AreStatements};
@@ -234,7 +234,7 @@ impl Session {
         out: &mut Text,
     ) -> Result<(), NoMemory>
         requires { IsProgram statements.items }
-        ensures { OnOk result ((w : World) (p : Tree) → Lives w self.old machine.old → w.mode ≡ Commands → resolved p ≡ Some statements.items
+        ensures { OnOk result ((w : World) (p : Tree) → Lives w self.old machine.old → w.mode ≡ Commands → resolution_of p ≡ Some statements.items
             → Became (with_program w p, loaded_reply statements.items) out.old out.new self.new machine.new) }
     {
         load(alloc, &statements, machine, &mut self.console, out)?;

@@ -1,51 +1,100 @@
-//! The classes of tokens that the grammar of expressions names: 6 times the number of a word symbol, and 6 times that of a sign
-//! and 4.
-use dice_base::{signs, words};
+//! The classes of tokens (pascal_tree, `class_of`), each derived from the number of its symbol.
+ghost use Rattle.std.specs.Prelude.{◌≡◌};
+ghost use Rattle.pascal_tree.specs.Tokens.{class_of};
+
+use dice_base::{TokenKind, signs, words};
+
+macro_rules! word_class {
+    ($symbol:ident) => {
+        6 * words::$symbol as u16
+    };
+}
+
+macro_rules! sign_class {
+    ($symbol:ident) => {
+        6 * signs::$symbol as u16 + 4
+    };
+}
 
 pub const IDENT: u16 = 1;
 
 pub const NUMBER: u16 = 2;
 
-pub const AND: u16 = 6 * words::AND as u16;
+const STRING: u16 = 3;
 
-pub const DIV: u16 = 6 * words::DIV as u16;
+const HOLE: u16 = 5;
 
-pub const IN: u16 = 6 * words::IN as u16;
+/// Where no token is left.
+pub const END_OF_TOKENS: u16 = 11;
 
-pub const MOD: u16 = 6 * words::MOD as u16;
+pub const AND: u16 = word_class!(AND);
 
-pub const NOT: u16 = 6 * words::NOT as u16;
+pub const BEGIN: u16 = word_class!(BEGIN);
 
-pub const OR: u16 = 6 * words::OR as u16;
+pub const DIV: u16 = word_class!(DIV);
 
-pub const PLUS: u16 = 6 * signs::PLUS as u16 + 4;
+pub const END: u16 = word_class!(END);
 
-pub const MINUS: u16 = 6 * signs::MINUS as u16 + 4;
+pub const IN: u16 = word_class!(IN);
 
-pub const TIMES: u16 = 6 * signs::TIMES as u16 + 4;
+pub const MOD: u16 = word_class!(MOD);
 
-pub const EQUAL: u16 = 6 * signs::EQUAL as u16 + 4;
+pub const NOT: u16 = word_class!(NOT);
 
-pub const NOT_EQUAL: u16 = 6 * signs::NOT_EQUAL as u16 + 4;
+pub const OR: u16 = word_class!(OR);
 
-pub const LESS: u16 = 6 * signs::LESS as u16 + 4;
+pub const PROGRAM: u16 = word_class!(PROGRAM);
 
-pub const GREATER: u16 = 6 * signs::GREATER as u16 + 4;
+pub const VAR: u16 = word_class!(VAR);
 
-pub const AT_MOST: u16 = 6 * signs::AT_MOST as u16 + 4;
+pub const PLUS: u16 = sign_class!(PLUS);
 
-pub const AT_LEAST: u16 = 6 * signs::AT_LEAST as u16 + 4;
+pub const MINUS: u16 = sign_class!(MINUS);
 
-pub const OPEN: u16 = 6 * signs::OPEN as u16 + 4;
+pub const TIMES: u16 = sign_class!(TIMES);
 
-pub const CLOSE: u16 = 6 * signs::CLOSE as u16 + 4;
+pub const EQUAL: u16 = sign_class!(EQUAL);
 
-pub const LEFT: u16 = 6 * signs::LEFT as u16 + 4;
+pub const NOT_EQUAL: u16 = sign_class!(NOT_EQUAL);
 
-pub const RIGHT: u16 = 6 * signs::RIGHT as u16 + 4;
+pub const LESS: u16 = sign_class!(LESS);
 
-pub const PERIOD: u16 = 6 * signs::PERIOD as u16 + 4;
+pub const GREATER: u16 = sign_class!(GREATER);
 
-pub const COMMA: u16 = 6 * signs::COMMA as u16 + 4;
+pub const AT_MOST: u16 = sign_class!(AT_MOST);
 
-pub const ARROW: u16 = 6 * signs::ARROW as u16 + 4;
+pub const AT_LEAST: u16 = sign_class!(AT_LEAST);
+
+pub const OPEN: u16 = sign_class!(OPEN);
+
+pub const CLOSE: u16 = sign_class!(CLOSE);
+
+pub const LEFT: u16 = sign_class!(LEFT);
+
+pub const RIGHT: u16 = sign_class!(RIGHT);
+
+pub const BECOMES: u16 = sign_class!(BECOMES);
+
+pub const PERIOD: u16 = sign_class!(PERIOD);
+
+pub const COMMA: u16 = sign_class!(COMMA);
+
+pub const SEMICOLON: u16 = sign_class!(SEMICOLON);
+
+pub const COLON: u16 = sign_class!(COLON);
+
+pub const ARROW: u16 = sign_class!(ARROW);
+
+/// The class of a token.
+pub(crate) fn class(kind: &TokenKind) -> u16
+    ensures { result ≡ class_of kind.now }
+{
+    match kind {
+        TokenKind::Word(number) => 6 * u16::from(*number),
+        TokenKind::Ident(_) => IDENT,
+        TokenKind::Number(_) => NUMBER,
+        TokenKind::Str(_) => STRING,
+        TokenKind::Sign(number) => 6 * u16::from(*number) + 4,
+        TokenKind::Hole => HOLE,
+    }
+}

@@ -1,27 +1,14 @@
 //! The tokens that are left.
 ghost use Rattle.std.specs.Prelude.{◌≡◌, length, map};
-ghost use Rattle.pascal_tree.specs.Tokens.{class_of, class_at};
+ghost use Rattle.pascal_tree.specs.Tokens.{class_at};
 ghost use Rattle.grammar_laws.specs.Parsers as spec;
 ghost use Rattle.grammar_laws.specs.Parsers.{Reads};
 
+use crate::classes::{END_OF_TOKENS, class};
 use dice_base::{Text, Token, TokenKind};
 use grammar_laws::Stop;
 use std::alloc::Global;
 use std::marker::Model;
-
-/// The class of a token.
-fn class(kind: &TokenKind) -> u16
-    ensures { result ≡ class_of kind.now }
-{
-    match kind {
-        TokenKind::Word(k) => 6 * u16::from(*k),
-        TokenKind::Ident(_) => 1,
-        TokenKind::Number(_) => 2,
-        TokenKind::Str(_) => 3,
-        TokenKind::Sign(k) => 6 * u16::from(*k) + 4,
-        TokenKind::Hole => 5,
-    }
-}
 
 /// The tokens that are left.
 #[derive(Drop)]
@@ -46,12 +33,12 @@ impl<'a> Cursor<'a> {
         Cursor { rest: tokens }
     }
 
-    /// The class of the next token, or 11 at the end.
+    /// The class of the next token, or that of the end.
     pub fn class(&self) -> u16
         ensures { result ≡ class_at self.now }
     {
         match self.rest {
-            [] => 11,
+            [] => END_OF_TOKENS,
             [token, ..] => class(&token.kind),
         }
     }

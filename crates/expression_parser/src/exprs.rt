@@ -4,6 +4,7 @@ ghost use Rattle.std.specs.Prelude.{◌≡◌, [], ◌∷◌, IfOk};
 ghost use Rattle.grammar_laws.specs.Parsers as parsers;
 ghost use Rattle.grammar_laws.specs.Parsers.{Reads, separated, behind};
 ghost use Rattle.grammar_laws.specs.Reading as spec;
+ghost use Rattle.pascal_tree.specs.Classes.{comma_class};
 ghost use Rattle.pascal_tree.specs.Expressions as grammar;
 ghost use Rattle.expression_parser.specs.Nests.{Nests};
 
@@ -82,7 +83,7 @@ impl<F: Fn(Global, &mut Cursor<'_>, usize) -> Result<Expr, Stop>> Grammar<F> {
     #[tactic(auto, unfolding(grammar_laws::specs::Parsers::behind))]
     fn next_expr(&self, tokens: &mut Cursor<'_>, depth: usize) -> Result<Option<Expr>, Stop>
         requires { Nests depth (F.pre self.now.expr) (F.post self.now.expr) }
-        ensures { Reads (behind 94 ((spec.inside depth).expr) tokens.old) result tokens.new }
+        ensures { Reads (behind comma_class ((spec.inside depth).expr) tokens.old) result tokens.new }
     {
         match tokens.class() {
             COMMA => {
@@ -96,7 +97,7 @@ impl<F: Fn(Global, &mut Cursor<'_>, usize) -> Result<Expr, Stop>> Grammar<F> {
     #[tactic(auto, using(crate::proofs::Turns::many_step, crate::proofs::Turns::many_stop), unfolding(grammar_laws::specs::Parsers::separated))]
     fn exprs(&self, tokens: &mut Cursor<'_>, depth: usize) -> Result<Items<Expr>, Stop>
         requires { Nests depth (F.pre self.now.expr) (F.post self.now.expr) }
-        ensures { Reads (separated 94 ((spec.inside depth).expr) tokens.old) result tokens.new }
+        ensures { Reads (separated comma_class ((spec.inside depth).expr) tokens.old) result tokens.new }
     {
         let mut found = Items::new(self.alloc);
         found.push(self.inner(tokens, depth)?)?;

@@ -3,7 +3,7 @@ use Rattle.std.specs.Prelude.{◌≡◌, ℕ, [], ◌∷◌, ◌++◌}
 use Rattle.std.proofs.Common.{refl, sym, subst, ◌∙◌, eqb, true}
 use Rattle.std.proofs.lemmas.List.{append-nil}
 use Rattle.pascal_tree.specs.declared.decl.Decl.{Decl}
-use Rattle.pascal_tree.specs.declared.program.Tree.{Tree as Program}
+use Rattle.pascal_tree.specs.declared.program.Tree.{Tree}
 use Rattle.pascal_tree.specs.declared.stmt.Stmt.{Stmt}
 use Rattle.pascal_tree.specs.Tokens.{Toks, class_at}
 use Rattle.pascal_tree.specs.Classes.{begin_class, program_class, var_class, ident_class, period_class, comma_class, semicolon_class, colon_class}
@@ -81,13 +81,13 @@ program_rule : Rule Any (read.program (stmt_in 62)) (program_form (stmt_at 62)) 
 program_rule = program_step (stmt_in 62) (stmt_at 62) (compound_rule (stmt_in 62) (stmt_at 62) (stmt_rules 62))
 
 -- what is read of all the tokens derives them
-pub program_found : (p : Program) (ts : Toks) → read.program (stmt_in 62) ts ≡ ok p [] → Derives p ts
+pub program_found : (p : Tree) (ts : Toks) → read.program (stmt_in 62) ts ≡ ok p [] → Derives p ts
 program_found p ts is =
     let x = program_rule.reads ts p [] tt is in
     subst (λ (u : Toks). program_form (stmt_at 62) p tt u) (sym (x.parts ∙ append-nil x.text)) x.form
 
 -- what derives the tokens is read
-pub program_only : (p : Program) (ts : Toks) → Derives p ts → read.program (stmt_in 62) ts ≡ ok p []
+pub program_only : (p : Tree) (ts : Toks) → Derives p ts → read.program (stmt_in 62) ts ≡ ok p []
 program_only p ts x =
     let e : read.program (stmt_in 62) (ts ++ []) ≡ ok p [] = program_rule.takes p tt ts [] x tt in
     rw append-nil at e

@@ -1,8 +1,9 @@
--- Programs, read from left to right.
+-- Programs, read from left to right (ISO 7185:1990, 6.10 programs, 6.2.1 blocks, 6.5.1 declarations of variables). Each
+-- function is named for what it reads, and follows the alternatives of the grammar (pascal_tree, Programs).
 use Rattle.std.specs.Prelude.{List, [], ◌∷◌, Option, Some, None}
 use Rattle.pascal_tree.specs.declared.decl.Decl.{Decl}
 use Rattle.pascal_tree.specs.declared.decl.Block.{Block}
-use Rattle.pascal_tree.specs.declared.program.Tree.{Tree as Program}
+use Rattle.pascal_tree.specs.declared.program.Tree.{Tree}
 use Rattle.pascal_tree.specs.declared.stmt.Stmt.{Stmt}
 use Rattle.pascal_tree.specs.declared.stmt.StmtKind.{StmtKind}
 use Rattle.pascal_tree.specs.Classes.{begin_class, program_class, var_class, ident_class, period_class, comma_class, semicolon_class, colon_class}
@@ -18,15 +19,18 @@ var_decl = do
   expect semicolon_class
   pure (make_var xs x)
 
+-- one declaration more: it begins with an identifier
 unfoldable pub more_vars : Parser (Option Decl)
 more_vars = from ident_class (var_decl >>= (λ d. pure (Some d))) (pure None)
 
+-- behind `var`: one declaration at least
 unfoldable pub vars_in : Parser (List Decl)
 vars_in = do
   d ← var_decl
   ds ← many more_vars
   pure (d ∷ ds)
 
+-- the part may be left out
 unfoldable pub vars : Parser (List Decl)
 vars = on var_class vars_in (pure [])
 
@@ -42,7 +46,7 @@ module _ (stmt : Parser Stmt) where
     b ← body
     pure (make_block ds b)
 
-  unfoldable pub program : Parser Program
+  unfoldable pub program : Parser Tree
   program = do
     expect program_class
     x ← ident

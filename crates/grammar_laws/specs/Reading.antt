@@ -1,4 +1,5 @@
--- Expressions, read from left to right.
+-- Expressions, read from left to right (ISO 7185:1990, 6.7.1 expressions, 6.5.2 to 6.5.5 accesses of variables).
+-- Each function is named for what it reads, and follows the alternatives of the grammar (pascal_tree, Expressions).
 use Rattle.std.specs.Prelude.{ℕ, zero, suc, Option, Some, None}
 use Rattle.pascal_tree.specs.declared.expr.Prefix.{Prefix}
 use Rattle.pascal_tree.specs.declared.expr.Prefix.TheVariants as prefix
@@ -17,21 +18,24 @@ use Rattle.pascal_tree.specs.Classes.{not_class, ident_class, number_class, plus
 use Rattle.pascal_tree.specs.Expressions.{mul_op, add_op, rel_op, make_mul, make_add, make_rel, make_access, make_term, make_sum, make_expr}
 use Rattle.grammar_laws.specs.Parsers.{Parser, ◌>>=◌, ◌>>◌, pure, refuse, on, from, expect, ident, number, separated, many, deep, prefixed}
 
--- what reads one level further in
+-- what reads an expression, and what reads a factor, one level further in
 pub record Inner : Type 0 where
   pub expr : Parser Expr
   pub factor : Parser Factor
 
+-- the sign before the first term, or none
 unfoldable pub sign : Parser Prefix
 sign = on plus_class (pure prefix.Plus) (on minus_class (pure prefix.Minus) (pure prefix.Without))
 
 module _ (inner : Inner) where
+  -- behind `[`: expressions up to `]`
   unfoldable pub index : Parser AccessPart
   index = do
     found ← separated comma_class inner.expr
     expect right_class
     pure (part.Index found)
 
+  -- an index, a field or `^`, if one comes next
   unfoldable pub access_part : Parser (Option AccessPart)
   access_part =
       on left_class (index >>= (λ x. pure (Some x)))
@@ -44,6 +48,7 @@ module _ (inner : Inner) where
     parts ← many access_part
     pure (make_access x parts)
 
+  -- behind `(`: an expression up to `)`
   unfoldable pub paren : Parser Factor
   paren = do
     e ← inner.expr
@@ -85,7 +90,7 @@ module _ (inner : Inner) where
     rest ← rel_part
     pure (make_expr x rest)
 
--- with this many levels that may nest
+-- with this many levels that may nest: none is left at zero
 unfoldable pub inside : ℕ → Inner
 inside zero = record { expr = deep; factor = deep }
 inside (suc d) = record { expr = expr (inside d); factor = factor (inside d) }

@@ -3,7 +3,7 @@ use dice_base::NoMemory;
 use std::alloc::AllocError;
 
 /// Why reading stops.
-#[derive(Clone, Copy, Debug, PartialEq, Eq)]
+#[derive(Clone, Copy)]
 pub enum Stop {
     Memory,
     /// At the token that nothing takes, by how many tokens are left from it on; 0 at the end.

@@ -1,24 +1,25 @@
 //! Declarations, blocks and programs.
-ghost use Rattle.std.specs.Prelude.{◌≡◌};
+ghost use Rattle.std.specs.Prelude.{◌≡◌, IfOk};
+ghost use Rattle.pascal_tree.specs.Classes.{comma_class};
+ghost use Rattle.pascal_tree.specs.Programs.{make_program};
 ghost use Rattle.grammar_laws.specs.Parsers as parsers;
 ghost use Rattle.grammar_laws.specs.Parsers.{Reads, separated, behind};
 ghost use Rattle.grammar_laws.specs.ProgramReading as spec;
 ghost use Rattle.grammar_laws.specs.StmtReading.{stmt_in};
 
-use crate::classes::{BEGIN, COLON, PROGRAM, SEMICOLON, VAR};
 use crate::stmts::compound;
 use dice_base::{Name, Text};
 use expression_parser::Cursor;
-use expression_parser::classes::{COMMA, IDENT, PERIOD};
+use expression_parser::classes::{BEGIN, COLON, COMMA, IDENT, PERIOD, PROGRAM, SEMICOLON, VAR};
 use grammar_laws::Stop;
-use pascal_tree::{Block, Decl, DeclKind, Stmt, StmtKind, Tree as Program, TypeText};
-use sqlite_items::Items;
-use std::alloc::Global;
+use pascal_tree::{Block, Decl, DeclKind, Stmt, StmtKind, Tree, TypeText};
+use sqlite_items::{Boxed, Items};
+use std::alloc::{AllocError, Global};
 
 // The identifier behind a comma, if one comes next.
 #[tactic(auto, unfolding(grammar_laws::specs::Parsers::behind))]
 fn next_ident(alloc: Global, tokens: &mut Cursor<'_>) -> Result<Option<Text>, Stop>
-    ensures { Reads (behind 94 parsers.ident tokens.old) result tokens.new }
+    ensures { Reads (behind comma_class parsers.ident tokens.old) result tokens.new }
 {
     match tokens.class() {
         COMMA => {
@@ -31,7 +32,7 @@ fn next_ident(alloc: Global, tokens: &mut Cursor<'_>) -> Result<Option<Text>, St
 
 #[tactic(auto, using(expression_parser::proofs::Turns::many_step, expression_parser::proofs::Turns::many_stop), unfolding(grammar_laws::specs::Parsers::separated))]
 fn idents(alloc: Global, tokens: &mut Cursor<'_>) -> Result<Items<Text>, Stop>
-    ensures { Reads (separated 94 parsers.ident tokens.old) result tokens.new }
+    ensures { Reads (separated comma_class parsers.ident tokens.old) result tokens.new }
 {
     let mut found = Items::new(alloc);
     found.push(tokens.ident(alloc)?)?;
@@ -87,10 +88,9 @@ fn var_decls(alloc: Global, tokens: &mut Cursor<'_>) -> Result<Items<Decl>, Stop
 fn vars_in(alloc: Global, tokens: &mut Cursor<'_>) -> Result<Items<Decl>, Stop>
     ensures { Reads (spec.vars_in tokens.old) result tokens.new }
 {
-    let first = var_decl(alloc, tokens)?;
-    let more = var_decls(alloc, tokens)?;
     let mut all = Items::new(alloc);
-    all.push(first)?;
+    all.push(var_decl(alloc, tokens)?)?;
+    let more = var_decls(alloc, tokens)?;
     all.append(more)?;
     Ok(all)
 }
@@ -136,20 +136,28 @@ fn block(alloc: Global, tokens: &mut Cursor<'_>, depth: usize) -> Result<Block, 
     })
 }
 
-/// A program in whose body's statements this many levels may nest.
+fn boxed_tree(alloc: Global, ident: Text, block: Block) -> Result<Boxed<Tree>, AllocError>
+    ensures { IfOk result (λ tree. tree ≡ make_program ident block) }
+{
+    let tree = Tree {
+        ident,
+        files: Items::new(alloc),
+        block,
+        next: 0,
+    };
+    Boxed::new(alloc, tree)
+}
+
+/// A program in whose body's statements this many levels may nest. It stands in a box, since so large a value is costly to
+/// prove dropped where reading stops behind it.
 #[tactic(auto, unfolding(grammar_laws::specs::ProgramReading::program))]
-pub fn program(alloc: Global, tokens: &mut Cursor<'_>, depth: usize) -> Result<Program, Stop>
+pub fn program(alloc: Global, tokens: &mut Cursor<'_>, depth: usize) -> Result<Boxed<Tree>, Stop>
     ensures { Reads (spec.program (stmt_in depth) tokens.old) result tokens.new }
 {
     tokens.expect(PROGRAM)?;
     let ident = tokens.ident(alloc)?;
     tokens.expect(SEMICOLON)?;
-    let block = block(alloc, tokens, depth)?;
+    let tree = boxed_tree(alloc, ident, block(alloc, tokens, depth)?)?;
     tokens.expect(PERIOD)?;
-    Ok(Program {
-        ident,
-        files: Items::new(alloc),
-        block,
-        next: 0,
-    })
+    Ok(tree)
 }

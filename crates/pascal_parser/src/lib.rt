@@ -5,13 +5,9 @@
 #![tactic(auto)]
 
 mod blocks;
-mod classes;
 mod fault;
 mod reader;
 mod stmts;
 
 pub use fault::ParseFault;
 pub use reader::{parse_program, parse_statement};
-
-#[cfg(test)]
-mod tests;

@@ -1,11 +1,11 @@
 //! All the tokens, as one program or one statement.
 ghost use Rattle.std.specs.Prelude.{◌≡◌, map, IfOk};
-ghost use Rattle.pascal_tree.specs.declared.program.Tree.{Tree as Program};
+ghost use Rattle.pascal_tree.specs.declared.program.Tree.{Tree};
 ghost use Rattle.pascal_tree.specs.declared.stmt.Stmt.{Stmt};
 ghost use Rattle.pascal_tree.specs.Programs.{Derives};
 ghost use Rattle.grammar_laws.specs.ProgramReading as read;
 ghost use Rattle.grammar_laws.specs.StmtReading.{stmt_in};
-ghost use Rattle.pascal_parser.specs.Whole.{kinds, DerivesStmt, ReadsAll, IsUnlessMemory, fault_of};
+ghost use Rattle.pascal_parser.specs.Whole.{kinds, DerivesStmt, ReadsWhole, IsUnlessMemory, fault_of};
 
 use crate::ParseFault;
 use crate::blocks::program;
@@ -13,7 +13,8 @@ use crate::stmts::stmt_within;
 use dice_base::Token;
 use expression_parser::Cursor;
 use grammar_laws::Stop;
-use pascal_tree::{Stmt, Tree as Program};
+use pascal_tree::{Stmt, Tree};
+use sqlite_items::Boxed;
 use std::alloc::Global;
 
 // The program is at level 1, its body at level 2, so the body's statements have 62 levels of the 64.
@@ -22,24 +23,24 @@ const LEVELS: usize = 62;
 // A statement that stands by itself is at level 1, so all 64 levels are its own.
 const STATEMENT_LEVELS: usize = 64;
 
-fn read_all(alloc: Global, tokens: &[Token]) -> Result<Program, Stop>
-    ensures { ReadsAll (read.program (stmt_in 62) (kinds tokens.now)) result }
+fn read_all(alloc: Global, tokens: &[Token]) -> Result<Tree, Stop>
+    ensures { ReadsWhole (read.program (stmt_in 62) (kinds tokens.now)) result }
 {
     let mut rest = Cursor::new(tokens);
     let found = program(alloc, &mut rest, LEVELS)?;
     if rest.len() > 0 {
         return Err(rest.refuse());
     }
-    Ok(found)
+    Ok(found.into_inner())
 }
 
 fn read_statement(alloc: Global, tokens: &[Token]) -> Result<Stmt, Stop>
-    ensures { ReadsAll (stmt_in 64 (kinds tokens.now)) result }
+    ensures { ReadsWhole (stmt_in 64 (kinds tokens.now)) result }
 {
     let mut rest = Cursor::new(tokens);
-    let found = stmt_within(alloc, &mut rest, STATEMENT_LEVELS)?;
+    let found = Boxed::new(alloc, stmt_within(alloc, &mut rest, STATEMENT_LEVELS)?)?;
     if rest.len() == 0 {
-        Ok(found)
+        Ok(found.into_inner())
     } else {
         Err(rest.refuse())
     }
@@ -57,11 +58,11 @@ fn fault_of(stop: Stop) -> ParseFault
 }
 
 /// The program of at most 64 levels that the tokens are. Its items have no names yet.
-pub fn parse_program(alloc: Global, tokens: &[Token]) -> Result<Program, ParseFault>
+pub fn parse_program(alloc: Global, tokens: &[Token]) -> Result<Tree, ParseFault>
     // What is read derives the tokens.
     ensures found { IfOk result (λ tree. Derives tree (kinds tokens.now)) }
     // What derives the tokens is read, unless memory runs out; so `NoReading` comes where nothing derives them.
-    ensures only { (tree : Program) → Derives tree (kinds tokens.now) → IsUnlessMemory result tree }
+    ensures only { (tree : Tree) → Derives tree (kinds tokens.now) → IsUnlessMemory result tree }
 {
     match read_all(alloc, tokens) {
         Ok(tree) => Ok(tree),

@@ -1,13 +1,15 @@
 //! Statements. The rules take the reader of the inner statements as a parameter.
 ghost use Rattle.std.specs.Prelude.{◌≡◌};
+ghost use Rattle.pascal_tree.specs.Classes.{comma_class, semicolon_class};
 ghost use Rattle.grammar_laws.specs.Parsers.{Reads, separated, behind};
 ghost use Rattle.grammar_laws.specs.Reading.{inside};
 ghost use Rattle.grammar_laws.specs.StmtReading as spec;
 ghost use Rattle.pascal_parser.specs.NestsStmt.{NestsStmt};
 
-use crate::classes::{BECOMES, BEGIN, COLON, END, SEMICOLON};
 use dice_base::{Name, Text};
-use expression_parser::classes::{CLOSE, COMMA, IDENT, OPEN};
+use expression_parser::classes::{
+    BECOMES, BEGIN, CLOSE, COLON, COMMA, END, IDENT, OPEN, SEMICOLON,
+};
 use expression_parser::{Cursor, access_parts, expr, inner_expr};
 use grammar_laws::Stop;
 use pascal_tree::{Access, AccessPart, Arg, Expr, Stmt, StmtKind};
@@ -39,7 +41,7 @@ fn arg(alloc: Global, tokens: &mut Cursor<'_>, depth: usize) -> Result<Arg, Stop
 // The argument behind a comma, if one comes next.
 #[tactic(auto, unfolding(grammar_laws::specs::Parsers::behind))]
 fn next_arg(alloc: Global, tokens: &mut Cursor<'_>, depth: usize) -> Result<Option<Arg>, Stop>
-    ensures { Reads (behind 94 (spec.arg (inside depth)) tokens.old) result tokens.new }
+    ensures { Reads (behind comma_class (spec.arg (inside depth)) tokens.old) result tokens.new }
 {
     match tokens.class() {
         COMMA => {
@@ -52,7 +54,7 @@ fn next_arg(alloc: Global, tokens: &mut Cursor<'_>, depth: usize) -> Result<Opti
 
 #[tactic(auto, using(expression_parser::proofs::Turns::many_step, expression_parser::proofs::Turns::many_stop), unfolding(grammar_laws::specs::Parsers::separated))]
 fn arg_list(alloc: Global, tokens: &mut Cursor<'_>, depth: usize) -> Result<Items<Arg>, Stop>
-    ensures { Reads (separated 94 (spec.arg (inside depth)) tokens.old) result tokens.new }
+    ensures { Reads (separated comma_class (spec.arg (inside depth)) tokens.old) result tokens.new }
 {
     let mut found = Items::new(alloc);
     found.push(arg(alloc, tokens, depth)?)?;
@@ -156,7 +158,7 @@ impl<F: Fn(Global, &mut Cursor<'_>, usize) -> Result<Stmt, Stop>> Statements<F> 
     #[tactic(auto, unfolding(grammar_laws::specs::Parsers::behind))]
     fn next_stmt(&self, tokens: &mut Cursor<'_>, depth: usize) -> Result<Option<Stmt>, Stop>
         requires { NestsStmt depth (F.pre self.now.stmt) (F.post self.now.stmt) }
-        ensures { Reads (behind 100 (spec.stmt_in depth) tokens.old) result tokens.new }
+        ensures { Reads (behind semicolon_class (spec.stmt_in depth) tokens.old) result tokens.new }
     {
         match tokens.class() {
             SEMICOLON => {
@@ -170,7 +172,7 @@ impl<F: Fn(Global, &mut Cursor<'_>, usize) -> Result<Stmt, Stop>> Statements<F> 
     #[tactic(auto, using(expression_parser::proofs::Turns::many_step, expression_parser::proofs::Turns::many_stop), unfolding(grammar_laws::specs::Parsers::separated))]
     fn sequence(&self, tokens: &mut Cursor<'_>, depth: usize) -> Result<Items<Stmt>, Stop>
         requires { NestsStmt depth (F.pre self.now.stmt) (F.post self.now.stmt) }
-        ensures { Reads (separated 100 (spec.stmt_in depth) tokens.old) result tokens.new }
+        ensures { Reads (separated semicolon_class (spec.stmt_in depth) tokens.old) result tokens.new }
     {
         let mut found = Items::new(self.alloc);
         found.push(self.inner(tokens, depth)?)?;

@@ -1,4 +1,4 @@
--- Fronts of a text.
+-- Fronts of a text: a token is the longest one that can be taken there (ISO 7185:1990, 6.1).
 use Rattle.std.specs.Prelude.{ℕ, Bool, if◌then◌else◌, List, [], ◌∷◌, None}
 use Rattle.std.specs.declared.option.Option.{Option}
 use Rattle.dice_base.specs.Lexemes.{sign_of}

@@ -1,4 +1,4 @@
--- How far a text was read.
+-- How far a text was read, token by token (ISO 7185:1990, 6.1).
 use Rattle.std.specs.Prelude.{ℕ, ◌<◌, ◌≤◌, List, ◌++◌, map, drop, length}
 use Rattle.dice_base.specs.declared.token.Token.{Token}
 use Rattle.dice_base.specs.declared.token.TokenKind.{TokenKind}
@@ -17,7 +17,8 @@ kinds = map (λ t. t.kind)
 -- up to this place the text is these tokens: with tokens of the rest behind them, they are the text's
 pub record IsRead (text : List ℕ) (at : ℕ) (tokens : List Token) : Type 0 where
   pub within : at ≤ length text
-  pub front : (left : List ℕ) (more : List TokenKind) → LexesTo left (drop at text) more → LexesTo left text (kinds tokens ++ more)
+  pub front : (left : List ℕ) (more : List TokenKind) →
+      LexesTo left (drop at text) more → LexesTo left text (kinds tokens ++ more)
   pub stand : StandWithin text 0 at tokens
 
 -- what stands at the front of a text

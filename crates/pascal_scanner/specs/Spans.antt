@@ -7,7 +7,8 @@ use Rattle.dice_base.specs.Lexemes.{Takes}
 abbrev pub StandWithin : List ℕ → ℕ → ℕ → List Token → Type 0
 StandWithin text from to [] = from ≤ to
 StandWithin text from to (t ∷ ts) =
-    (from ≤ t.span.from) × (t.span.from < t.span.to) × Takes (drop t.span.from text) t.kind (drop t.span.to text) × StandWithin text t.span.to to ts
+    (from ≤ t.span.from) × (t.span.from < t.span.to)
+    × Takes (drop t.span.from text) t.kind (drop t.span.to text) × StandWithin text t.span.to to ts
 
 -- the tokens stand in the text in order
 abbrev pub Stand : List ℕ → List Token → Type 0

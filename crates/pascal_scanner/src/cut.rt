@@ -22,7 +22,8 @@ fn push_token(
 ) -> Result<(), ScanFault>
     requires order { from ≤ to }
     requires small { to < 2 ^ 32 }
-    ensures ok { OnOk result (tokens.new.items ≡ tokens.old.items ++ record { kind = kind; span = record { from = from; to = to } } ∷ []) }
+    ensures ok { OnOk result (tokens.new.items
+        ≡ tokens.old.items ++ record { kind = kind; span = record { from = from; to = to } } ∷ []) }
     ensures err { IfErr result (λ e. e ≡ NoMemory) }
 {
     let span = Span {
@@ -65,7 +66,8 @@ fn read_on(
 pub fn scan(alloc: Global, text: &[u8]) -> Result<Vec<Token>, ScanFault>
     // The text is these tokens, and no others.
     ensures tokens { IfOk result (λ tokens. Lexes text.now (map (λ t. t.kind) tokens.items)) }
-    ensures only { IfOk result (λ tokens. (list : List TokenKind) → Lexes text.now list → list ≡ map (λ t. t.kind) tokens.items) }
+    ensures only { IfOk result (λ tokens. (list : List TokenKind) →
+        Lexes text.now list → list ≡ map (λ t. t.kind) tokens.items) }
     // Each stands where its span says.
     ensures spans { IfOk result (λ tokens. Stand text.now tokens.items) }
     ensures long { IsErrOf result ScanFault.TextTooLong ↔ (65536 < length text.now) }

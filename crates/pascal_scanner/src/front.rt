@@ -11,7 +11,7 @@ use dice_base::{ByteClass, NoMemory, SIGNS, Text, TokenKind, WORD_SYMBOLS, byte_
 use std::alloc::Global;
 
 /// What stands at the front of a text, with its length in bytes.
-#[derive(Debug, Drop)]
+#[derive(Drop)]
 pub enum Step {
     /// What stands between tokens.
     Gap(usize),
@@ -20,7 +20,7 @@ pub enum Step {
 }
 
 /// Why a text is not read on.
-#[derive(Clone, Copy, Debug, PartialEq, Eq)]
+#[derive(Clone, Copy)]
 pub enum Stop {
     Memory,
     Character,

@@ -7,6 +7,3 @@ mod front;
 
 pub use cut::scan;
 pub use fault::ScanFault;
-
-#[cfg(test)]
-mod tests;

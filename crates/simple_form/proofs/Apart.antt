@@ -14,7 +14,7 @@ use Rattle.pascal_tree.specs.declared.program.Tree.{Tree}
 use Rattle.pascal_tree.specs.Names.{of_block, of_routine, label_names, decl_names, stmt_names, block_names, routine_names, program_names}
 use Rattle.program_tree.specs.Named.{IsNamed, IsNameBelow}
 use Rattle.simple_form.specs.declared.program.SimpleProgram.{SimpleProgram}
-use Rattle.simple_form.specs.Simple.{Texts, Leaves, resolved_over, declared_variables, resolved, statements_in}
+use Rattle.simple_form.specs.Simple.{Texts, Leaves, resolution_over, declared_variables, resolution_of, statements_in}
 use Rattle.simple_form.proofs.Sublists.{Sublist, keep, sublist_all, sublist_distinct}
 use Rattle.simple_form.proofs.Kept.{names_of, Keeps, keeps_stmt, keeps_behind}
 
@@ -24,7 +24,7 @@ names_block : (b : Block) → block_names b ≡ label_names (out-Block b).labels
 unfolding block_names routine_names
 names_block b = fold_out-Block (List ℕ) (List ℕ) of_block of_routine b
 
-keeps_body : (vars : Option Texts) (body : Stmt) → Keeps (resolved_over vars body) (stmt_names body)
+keeps_body : (vars : Option Texts) (body : Stmt) → Keeps (resolution_over vars body) (stmt_names body)
 keeps_body None body = tt
 keeps_body (Some vars) body = keeps_stmt vars body
 
@@ -37,8 +37,8 @@ keeps_block b r p =
     (keeps_behind (decl_names (out-Block b).vars) r _
     (keeps_behind (concat (map routine_names (out-Block b).routines)) r _ p)))))
 
-keeps_program : (p : Tree) → Keeps (resolved p) (block_names p.block)
-keeps_program p = keeps_block p.block (resolved p) (keeps_body (declared_variables p) (out-Block p.block).body)
+keeps_program : (p : Tree) → Keeps (resolution_of p) (block_names p.block)
+keeps_program p = keeps_block p.block (resolution_of p) (keeps_body (declared_variables p) (out-Block p.block).body)
 
 -- ---- names of statements
 
@@ -75,16 +75,16 @@ parts_apart ss p named s =
 leaves_apart : (r : Leaves) (ss : List Statement) (p : Tree) → IsNamed p → Keeps r (block_names p.block) → Some ss ≡ r → AreApart ss
 leaves_apart r ss p named keeps e = parts_apart ss p named (keep 1 (subst (λ (x : Leaves). Keeps x (block_names p.block)) (sym e) keeps))
 
-program_apart : (p : Tree) → IsNamed p → (r : Option SimpleProgram) → statements_in r ≡ resolved p → IfSome r (λ q. AreApart q.statements.items)
+program_apart : (p : Tree) → IsNamed p → (r : Option SimpleProgram) → statements_in r ≡ resolution_of p → IfSome r (λ q. AreApart q.statements.items)
 program_apart p named None e = tt
-program_apart p named (Some q) e = leaves_apart (resolved p) q.statements.items p named (keeps_program p) e
+program_apart p named (Some q) e = leaves_apart (resolution_of p) q.statements.items p named (keeps_program p) e
 
 -- ---- the clauses of the code
 
 abbrev Answer : Type 0
 Answer = Result (Option SimpleProgram) NoMemory
 
-pub answer_apart : (p q : Tree) → q ≡ p → IsNamed p → (r : Answer) → IfOk r (λ x. statements_in x ≡ resolved q) → IfOk r (λ x. IfSome x (λ s. AreApart s.statements.items))
+pub answer_apart : (p q : Tree) → q ≡ p → IsNamed p → (r : Answer) → IfOk r (λ x. statements_in x ≡ resolution_of q) → IfOk r (λ x. IfSome x (λ s. AreApart s.statements.items))
 answer_apart p q is named (Ok x) e = program_apart q (subst (λ (t : Tree). IsNamed t) (sym is) named) x e
 answer_apart p q is named (Err f) e = tt
 

@@ -9,6 +9,3 @@ mod program;
 mod statements;
 
 pub use program::{SimpleProgram, is_built, resolve_program};
-
-#[cfg(test)]
-mod tests;

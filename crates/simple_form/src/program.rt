@@ -3,7 +3,7 @@ ghost use Rattle.std.specs.Prelude.{◌≡◌, ◌≤◌, true, length, IfOk, If
 ghost use Rattle.std.specs.List.{AllByRecursion};
 ghost use Rattle.simple_form.specs.Simple as spec;
 ghost use Rattle.pascal_tree.specs.declared.typing.TypeText.{out-TypeText};
-ghost use Rattle.simple_form.specs.Simple.{stmt_of, resolved, statements_in};
+ghost use Rattle.simple_form.specs.Simple.{stmt_leaves, resolution_of, statements_in};
 ghost use Rattle.pascal_semantics.specs.Valid.{IsForm, IsFree, AllDiffer};
 
 use crate::operands::number_of;
@@ -106,7 +106,7 @@ fn resolve_body(
     body: &Stmt,
 ) -> Result<Option<SimpleProgram>, NoMemory>
     requires { length variables.now ≤ 64 }
-    ensures value { IfOk result (λ r. statements_in r ≡ stmt_of variables.now body.now) }
+    ensures value { IfOk result (λ r. statements_in r ≡ stmt_leaves variables.now body.now) }
     ensures forms { IfOk result (λ r. IfSome r (λ p. AllByRecursion (λ s. IsForm s.form) p.statements.items)) }
 {
     let mut statements = Vec::new(alloc);
@@ -117,7 +117,7 @@ fn resolve_body(
 }
 
 fn resolve_tree(alloc: Global, tree: &Tree) -> Result<Option<SimpleProgram>, NoMemory>
-    ensures value { IfOk result (λ r. statements_in r ≡ resolved tree.now) }
+    ensures value { IfOk result (λ r. statements_in r ≡ resolution_of tree.now) }
     ensures forms { IfOk result (λ r. IfSome r (λ p. AllByRecursion (λ s. IsForm s.form) p.statements.items)) }
 {
     match declared_variables(tree) {
@@ -129,7 +129,7 @@ fn resolve_tree(alloc: Global, tree: &Tree) -> Result<Option<SimpleProgram>, NoM
 /// The statements of a simple program, their variables resolved. None where the program is not simple.
 pub fn resolve_program(alloc: Global, program: &Program) -> Result<Option<SimpleProgram>, NoMemory>
     // The answer is what the program resolves to.
-    ensures value { IfOk result (λ r. statements_in r ≡ resolved program.now) }
+    ensures value { IfOk result (λ r. statements_in r ≡ resolution_of program.now) }
     // All parts are in range, no two statements, and not the program, have the same name, and there are no more
     // statements than names.
     ensures forms { IfOk result (λ r. IfSome r (λ p. AllByRecursion (λ s. IsForm s.form) p.statements.items)) }

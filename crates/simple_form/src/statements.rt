@@ -89,7 +89,8 @@ fn push_leaf(
 ) -> Result<bool, NoMemory>
     requires { IfSome form IsForm }
     ensures value { IfOk result (λ is. IsAdded is (spec.leaf name.0 form) out.old.items out.new.items) }
-    ensures within { IfOk result (λ _. AllByRecursion (λ s. IsForm s.form) out.old.items → AllByRecursion (λ s. IsForm s.form) out.new.items) }
+    ensures within { IfOk result (λ _.
+        AllByRecursion (λ s. IsForm s.form) out.old.items → AllByRecursion (λ s. IsForm s.form) out.new.items) }
 {
     match form {
         Some(form) => {
@@ -101,7 +102,7 @@ fn push_leaf(
 }
 
 #[cycle(push_stmt)]
-#[tactic(auto, unfolding(crate::specs::Simple::stmt_of, crate::specs::Simple::kind_of))]
+#[tactic(auto, unfolding(crate::specs::Simple::stmt_leaves, crate::specs::Simple::kind_leaves))]
 fn push_kind(
     variables: &[Text],
     name: Name,
@@ -109,8 +110,10 @@ fn push_kind(
     out: &mut Vec<Statement>,
 ) -> Result<bool, NoMemory>
     requires { length variables.now ≤ 64 }
-    ensures value { IfOk result (λ is. IsAdded is (spec.kind_of variables.now kind.now name.0) out.old.items out.new.items) }
-    ensures within { IfOk result (λ _. AllByRecursion (λ s. IsForm s.form) out.old.items → AllByRecursion (λ s. IsForm s.form) out.new.items) }
+    ensures value { IfOk result (λ is.
+        IsAdded is (spec.kind_leaves variables.now kind.now name.0) out.old.items out.new.items) }
+    ensures within { IfOk result (λ _.
+        AllByRecursion (λ s. IsForm s.form) out.old.items → AllByRecursion (λ s. IsForm s.form) out.new.items) }
 {
     match kind {
         StmtKind::Empty => push_leaf(name, Some(SimpleForm::Empty), out),
@@ -128,15 +131,17 @@ fn push_kind(
 /// Adds the statements that have a block, in the order of the text, each under its name; or says that some statement
 /// is not simple.
 #[cycle(push_stmt)]
-#[tactic(auto, unfolding(crate::specs::Simple::stmt_of, crate::specs::Simple::kind_of))]
+#[tactic(auto, unfolding(crate::specs::Simple::stmt_leaves, crate::specs::Simple::kind_leaves))]
 pub fn push_stmt(
     variables: &[Text],
     stmt: &Stmt,
     out: &mut Vec<Statement>,
 ) -> Result<bool, NoMemory>
     requires { length variables.now ≤ 64 }
-    ensures value { IfOk result (λ is. IsAdded is (spec.stmt_of variables.now stmt.now) out.old.items out.new.items) }
-    ensures within { IfOk result (λ _. AllByRecursion (λ s. IsForm s.form) out.old.items → AllByRecursion (λ s. IsForm s.form) out.new.items) }
+    ensures value { IfOk result (λ is.
+        IsAdded is (spec.stmt_leaves variables.now stmt.now) out.old.items out.new.items) }
+    ensures within { IfOk result (λ _.
+        AllByRecursion (λ s. IsForm s.form) out.old.items → AllByRecursion (λ s. IsForm s.form) out.new.items) }
 {
     if stmt.label.is_some() {
         return Ok(false);
@@ -151,8 +156,10 @@ fn push_stmts(
     out: &mut Vec<Statement>,
 ) -> Result<bool, NoMemory>
     requires { length variables.now ≤ 64 }
-    ensures value { IfOk result (λ is. IsAdded is (spec.stmts_of variables.now stmts.now) out.old.items out.new.items) }
-    ensures within { IfOk result (λ _. AllByRecursion (λ s. IsForm s.form) out.old.items → AllByRecursion (λ s. IsForm s.form) out.new.items) }
+    ensures value { IfOk result (λ is.
+        IsAdded is (spec.stmts_leaves variables.now stmts.now) out.old.items out.new.items) }
+    ensures within { IfOk result (λ _.
+        AllByRecursion (λ s. IsForm s.form) out.old.items → AllByRecursion (λ s. IsForm s.form) out.new.items) }
 {
     for stmt in stmts {
         if !push_stmt(variables, stmt, out)? {
