@@ -41,8 +41,10 @@ length_text word width small = ap (λ t. length (replicate (width - length t) 32
   where
     text : List ℕ
     text = sign_of word ++ decimal (size_of word)
+
     pad : ℕ
     pad = width - length text
+
     parts : length (replicate pad 32 ++ text) ≡ (width - (length (sign_of word) + length (decimal (size_of word)))) + length (sign_of word) + length (decimal (size_of word))
     parts = omega (arith, length-append (replicate pad 32) text, length-replicate {A = ℕ} pad 32, length-append (sign_of word) (decimal (size_of word)), ap (λ n. width - n) (length-append (sign_of word) (decimal (size_of word))))
 

@@ -21,12 +21,15 @@ pub record Cpu : Type 0 where
 
 -- the machine and its console, with SP and PC as byte addresses
 abbrev pub state_of : Cpu → MachineAndConsole
-state_of c = (record {
-  memory = c.mem;
-  registers = c.r0 ∷ c.r1 ∷ c.r2 ∷ c.r3 ∷ c.r4 ∷ c.r5 ∷ (2 * c.sp) ∷ (2 * c.pc) ∷ [];
-  flags = c.flags;
-  upper = c.upper;
-}, c.console)
+state_of c = (
+  record {
+    memory = c.mem;
+    registers = c.r0 ∷ c.r1 ∷ c.r2 ∷ c.r3 ∷ c.r4 ∷ c.r5 ∷ (2 * c.sp) ∷ (2 * c.pc) ∷ [];
+    flags = c.flags;
+    upper = c.upper;
+  },
+  c.console,
+)
 
 -- the words stand in the memory from this place on
 abbrev pub HasAt : List ℕ → ℕ → List ℕ → Type 0

@@ -38,15 +38,19 @@ fn assigns_a_sum(alloc: Global) -> Result<bool, NoMemory> {
     Ok(is_code(&code, 64, &front, 14, LinkTo::Next))
 }
 
-fn writes_a_line(alloc: Global, width: Option<u8>, written: u16, charge: usize) -> Result<bool, NoMemory> {
+fn writes_a_line(
+    alloc: Global,
+    width: Option<u8>,
+    written: u16,
+    charge: usize,
+) -> Result<bool, NoMemory> {
     let value = Sum {
         first: Operand::Global(0),
         second: None,
     };
     let code = emit_simple(alloc, &SimpleForm::WriteLine(value, width))?;
     let front = [
-        0o000240, 0o013746, 0o065000, 0o012600, 0o012701, written, 0o104004, 0o104010, 0o000137,
-        0,
+        0o000240, 0o013746, 0o065000, 0o012600, 0o012701, written, 0o104004, 0o104010, 0o000137, 0,
     ];
     Ok(is_code(&code, charge, &front, 9, LinkTo::Next))
 }
@@ -83,11 +87,13 @@ fn loads_in_text_order(alloc: Global) -> Result<bool, NoMemory> {
     let words = load_words(alloc, &statements)?;
     let gates = [(32, 0o000240), (68, 0o000240), (132, 0o000240)];
     let links = [(16, 576), (38, 648), (82, 776), (134, 546)];
-    Ok(words.len() == 140
-        && gates
-            .into_iter()
-            .chain(links)
-            .all(|(at, word)| words.get(at) == Some(&word)))
+    Ok(
+        words.len() == 140
+            && gates
+                .into_iter()
+                .chain(links)
+                .all(|(at, word)| words.get(at) == Some(&word)),
+    )
 }
 
 #[test]

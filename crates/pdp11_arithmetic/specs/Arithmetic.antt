@@ -41,7 +41,8 @@ division high low divisor =
     if leaves_word negative (pair / magnitude divisor) then None
     else Some (
       with_sign 65536 negative (pair / magnitude divisor),
-      with_sign 65536 (is_negative high) (pair % magnitude divisor))
+      with_sign 65536 (is_negative high) (pair % magnitude divisor),
+    )
 
 -- a word shifted left, in as many bits as it then has
 abbrev pub wide_left : ℕ → ℕ → ℕ

@@ -77,13 +77,13 @@ left_shift byte v = shift_outcome byte (2 * v % whole byte) (nat_le (half byte) 
 -- what an instruction makes of a value at this carry, by bits 6 to 14 of its word
 unfoldable pub outcome_of : ℕ → Bool → Bool → ℕ → Outcome
 outcome_of op byte c v =
-    if nat_eq op 0o051 then complement byte v                 -- COM, COMB
-    else (if nat_eq op 0o052 then increment byte c v          -- INC, INCB
-    else (if nat_eq op 0o053 then decrement byte c v          -- DEC, DECB
-    else (if nat_eq op 0o054 then negation byte v             -- NEG, NEGB
-    else (if nat_eq op 0o055 then carry_sum byte c v          -- ADC, ADCB
-    else (if nat_eq op 0o056 then carry_difference byte c v   -- SBC, SBCB
-    else (if nat_eq op 0o060 then right_rotation byte c v     -- ROR, RORB
-    else (if nat_eq op 0o061 then left_rotation byte c v      -- ROL, ROLB
-    else (if nat_eq op 0o062 then right_shift byte v          -- ASR, ASRB
-    else left_shift byte v))))))))                            -- ASL, ASLB
+    if nat_eq op 0o051 then complement byte v  -- COM, COMB
+    else (if nat_eq op 0o052 then increment byte c v  -- INC, INCB
+    else (if nat_eq op 0o053 then decrement byte c v  -- DEC, DECB
+    else (if nat_eq op 0o054 then negation byte v  -- NEG, NEGB
+    else (if nat_eq op 0o055 then carry_sum byte c v  -- ADC, ADCB
+    else (if nat_eq op 0o056 then carry_difference byte c v  -- SBC, SBCB
+    else (if nat_eq op 0o060 then right_rotation byte c v  -- ROR, RORB
+    else (if nat_eq op 0o061 then left_rotation byte c v  -- ROL, ROLB
+    else (if nat_eq op 0o062 then right_shift byte v  -- ASR, ASRB
+    else left_shift byte v))))))))  -- ASL, ASLB

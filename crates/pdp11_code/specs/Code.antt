@@ -38,8 +38,8 @@ ea_at words at field =
 abbrev pub read_as : Shape → ℕ → List ℕ → Option (Instr × ℕ)
 read_as DoubleOperand word words =
     option_and_then (λ s.
-      option_map (λ d. (Two (word / 0o10000 % 8) (nat_le 0o100000 word) s.0 d.0, d.1)) (ea_at words s.1 word))
-      (ea_at words 1 (word / 0o100))
+    option_map (λ d. (Two (word / 0o10000 % 8) (nat_le 0o100000 word) s.0 d.0, d.1)) (ea_at words s.1 word))
+    (ea_at words 1 (word / 0o100))
 read_as SingleOperand word words =
     option_map (λ d. (One (word / 0o100 % 0o400) (nat_le 0o100000 word) d.0, d.1)) (ea_at words 1 word)
 read_as RegisterOperand word words =

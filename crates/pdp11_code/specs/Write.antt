@@ -18,27 +18,27 @@ field_of e = e.mode * 0o10 + e.register
 
 -- the first word, by its fields from the left
 abbrev pub first_word : Instr → ℕ
-first_word (Two op high source target) =              -- MOV .. ADD, MOVB .. BISB, SUB
+first_word (Two op high source target) =  -- MOV .. ADD, MOVB .. BISB, SUB
     high_bit high + op * 0o10000 + field_of source * 0o100 + field_of target
-first_word (Extended op register source) =            -- MUL, DIV, ASH, XOR
+first_word (Extended op register source) =  -- MUL, DIV, ASH, XOR
     0o070000 + op * 0o1000 + register * 0o100 + field_of source
-first_word (Jsr register target) =                    -- JSR
+first_word (Jsr register target) =  -- JSR
     0o004000 + register * 0o100 + field_of target
-first_word (Rts register) =                           -- RTS
+first_word (Rts register) =  -- RTS
     0o000200 + register
-first_word (Sob register back) =                      -- SOB
+first_word (Sob register back) =  -- SOB
     0o077000 + register * 0o100 + back
-first_word (One op high target) =                     -- JMP, SWAB, CLR .. ASL, SXT
+first_word (One op high target) =  -- JMP, SWAB, CLR .. ASL, SXT
     high_bit high + op * 0o100 + field_of target
-first_word (Branch high low) =                        -- BR .. BLE, BPL .. BCS
+first_word (Branch high low) =  -- BR .. BLE, BPL .. BCS
     high * 0o400 + low
-first_word (Emt n) =                                  -- EMT
+first_word (Emt n) =  -- EMT
     0o104000 + n
-first_word (Trap n) =                                 -- TRAP
+first_word (Trap n) =  -- TRAP
     0o104400 + n
-first_word (Flags set bits) =                         -- NOP, CLC .. CCC, SEC .. SCC
+first_word (Flags set bits) =  -- NOP, CLC .. CCC, SEC .. SCC
     0o000240 + (if set then 0o20 else 0) + bits
-first_word (Bare n) = n                               -- HALT, RTI, BPT, IOT, RTT
+first_word (Bare n) = n  -- HALT, RTI, BPT, IOT, RTT
 
 -- the word that follows an operand, if any
 abbrev pub next_words : Option ℕ → List ℕ

@@ -10,4 +10,3 @@ pub use instr::{Ea, Instr};
 pub use reading::decode;
 pub use table::{ROWS, Row, Shape};
 pub use writing::encode;
-

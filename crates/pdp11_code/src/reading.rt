@@ -29,7 +29,10 @@ fn instruction(words: &[u16]) -> Option<(Instr, usize)>
         Shape::JumpToSubroutine => jump_to_subroutine(word, words),
         Shape::ReturnFromSubroutine => Some((Instr::Rts((word % 8) as u8), 1)),
         Shape::SubtractOneAndBranch => {
-            Some((Instr::Sob((word / 0o100 % 8) as u8, (word % 0o100) as u8), 1))
+            Some((
+                Instr::Sob((word / 0o100 % 8) as u8, (word % 0o100) as u8),
+                1,
+            ))
         }
         Shape::BranchOffset => Some((Instr::Branch((word / 0o400) as u8, (word % 0o400) as u8), 1)),
         Shape::EmulatorTrap => Some((Instr::Emt((word % 0o400) as u8), 1)),

@@ -28,7 +28,10 @@ fn write_instruction(instr: &Instr, out: &mut [u16; 3]) -> usize
 {
     match instr {
         Instr::Two(op, high, source, target) => {
-            let first = high_part(*high) + *op as u16 * 0o10000 + field(source) * 0o100 + field(target);
+            let first = high_part(*high)
+                + *op as u16 * 0o10000
+                + field(source) * 0o100
+                + field(target);
             write_two(first, source.next, target.next, out)
         }
         Instr::Extended(op, register, source) => {
@@ -51,13 +54,21 @@ fn write_instruction(instr: &Instr, out: &mut [u16; 3]) -> usize
         }
         Instr::Rts(register) => write_one(0o000200 + *register as u16, None, out),
         Instr::Sob(register, back) => {
-            write_one(0o077000 + *register as u16 * 0o100 + *back as u16, None, out)
+            write_one(
+                0o077000 + *register as u16 * 0o100 + *back as u16,
+                None,
+                out,
+            )
         }
         Instr::Branch(high, low) => write_one(*high as u16 * 0o400 + *low as u16, None, out),
         Instr::Emt(low) => write_one(0o104000 + *low as u16, None, out),
         Instr::Trap(low) => write_one(0o104400 + *low as u16, None, out),
         Instr::Flags(set, bits) => {
-            write_one(0o000240 + if *set { 0o20 } else { 0 } + *bits as u16, None, out)
+            write_one(
+                0o000240 + if *set { 0o20 } else { 0 } + *bits as u16,
+                None,
+                out,
+            )
         }
         Instr::Bare(word) => write_one(*word as u16, None, out),
     }

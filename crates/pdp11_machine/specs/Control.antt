@@ -14,21 +14,21 @@ use Rattle.pdp11_machine.specs.Operands.{and_then, operand_address, after_store}
 -- the branch of this high byte is taken
 abbrev pub is_taken : ℕ → Flags → Bool
 is_taken high f =
-    if nat_eq high 0o001 then true                                                      -- BR
-    else (if nat_eq high 0o002 then not f.zero                                          -- BNE
-    else (if nat_eq high 0o003 then f.zero                                              -- BEQ
-    else (if nat_eq high 0o004 then not (differs f.negative f.overflow)                 -- BGE
-    else (if nat_eq high 0o005 then differs f.negative f.overflow                       -- BLT
-    else (if nat_eq high 0o006 then not (f.zero || differs f.negative f.overflow)       -- BGT
-    else (if nat_eq high 0o007 then f.zero || differs f.negative f.overflow             -- BLE
-    else (if nat_eq high 0o200 then not f.negative                                      -- BPL
-    else (if nat_eq high 0o201 then f.negative                                          -- BMI
-    else (if nat_eq high 0o202 then not (f.carry || f.zero)                             -- BHI
-    else (if nat_eq high 0o203 then f.carry || f.zero                                   -- BLOS
-    else (if nat_eq high 0o204 then not f.overflow                                      -- BVC
-    else (if nat_eq high 0o205 then f.overflow                                          -- BVS
-    else (if nat_eq high 0o206 then not f.carry                                         -- BCC
-    else f.carry)))))))))))))                                                           -- BCS
+    if nat_eq high 0o001 then true  -- BR
+    else (if nat_eq high 0o002 then not f.zero  -- BNE
+    else (if nat_eq high 0o003 then f.zero  -- BEQ
+    else (if nat_eq high 0o004 then not (differs f.negative f.overflow)  -- BGE
+    else (if nat_eq high 0o005 then differs f.negative f.overflow  -- BLT
+    else (if nat_eq high 0o006 then not (f.zero || differs f.negative f.overflow)  -- BGT
+    else (if nat_eq high 0o007 then f.zero || differs f.negative f.overflow  -- BLE
+    else (if nat_eq high 0o200 then not f.negative  -- BPL
+    else (if nat_eq high 0o201 then f.negative  -- BMI
+    else (if nat_eq high 0o202 then not (f.carry || f.zero)  -- BHI
+    else (if nat_eq high 0o203 then f.carry || f.zero  -- BLOS
+    else (if nat_eq high 0o204 then not f.overflow  -- BVC
+    else (if nat_eq high 0o205 then f.overflow  -- BVS
+    else (if nat_eq high 0o206 then not f.carry  -- BCC
+    else f.carry)))))))))))))  -- BCS
 
 -- PC goes by the signed low byte, in words: twice the byte, less 0o1000 from 0o200 on
 abbrev pub after_branch : ℕ → MachineState → MachineState

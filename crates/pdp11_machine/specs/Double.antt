@@ -29,16 +29,22 @@ after_move byte s value target =
 -- CMP, CMPB: source minus destination; C is the borrow
 abbrev pub after_compare : Bool → MachineState → ℕ → Place → MachineState × Option Unit
 after_compare byte s value target =
-    and_then (s, value_in byte s target) (λ t old. (record t {
-      flags = flags_by byte (difference byte value old) (difference_leaves byte value old) (nat_lt value old);
-    }, Some tt))
+    and_then (s, value_in byte s target) (λ t old. (
+      record t {
+        flags = flags_by byte (difference byte value old) (difference_leaves byte value old) (nat_lt value old);
+      },
+      Some tt,
+    ))
 
 -- BIT, BITB: C stays
 abbrev pub after_bit_test : Bool → MachineState → ℕ → Place → MachineState × Option Unit
 after_bit_test byte s value target =
-    and_then (s, value_in byte s target) (λ t old. (record t {
-      flags = flags_by byte (bit_and value old) false t.flags.carry;
-    }, Some tt))
+    and_then (s, value_in byte s target) (λ t old. (
+      record t {
+        flags = flags_by byte (bit_and value old) false t.flags.carry;
+      },
+      Some tt,
+    ))
 
 -- an operand becomes this, as the result of a logical instruction: V is cleared, and C stays
 abbrev pub after_logic_store : Bool → MachineState → Place → ℕ → MachineState × Option Unit
@@ -59,26 +65,26 @@ after_bit_set byte s value target =
 abbrev pub after_add : MachineState → ℕ → Place → MachineState × Option Unit
 after_add s word target =
     and_then (s, word_in s target) (λ t old.
-      with_flags (flags_of ((old + word) % 65536) (sum_overflows old word) (nat_le 65536 (old + word)))
-        (after_store t target ((old + word) % 65536)))
+    with_flags (flags_of ((old + word) % 65536) (sum_overflows old word) (nat_le 65536 (old + word)))
+    (after_store t target ((old + word) % 65536)))
 
 -- SUB: destination minus source; C is the borrow
 abbrev pub after_subtract : MachineState → ℕ → Place → MachineState × Option Unit
 after_subtract s word target =
     and_then (s, word_in s target) (λ t old.
-      with_flags (flags_of (difference false old word) (difference_leaves false old word) (nat_lt old word))
-        (after_store t target (difference false old word)))
+    with_flags (flags_of (difference false old word) (difference_leaves false old word) (nat_lt old word))
+    (after_store t target (difference false old word)))
 
 -- what an instruction does with its source's value and its destination, by bits 12 to 14 and bit 15
 abbrev pub after_operation : ℕ → Bool → MachineState → ℕ → Place → MachineState × Option Unit
 after_operation op high s value target =
-    if nat_eq op 0o1 then after_move high s value target              -- MOV, MOVB
-    else (if nat_eq op 0o2 then after_compare high s value target     -- CMP, CMPB
-    else (if nat_eq op 0o3 then after_bit_test high s value target    -- BIT, BITB
-    else (if nat_eq op 0o4 then after_bit_clear high s value target   -- BIC, BICB
-    else (if nat_eq op 0o5 then after_bit_set high s value target     -- BIS, BISB
-    else (if high then after_subtract s value target                  -- SUB
-    else after_add s value target)))))                                -- ADD
+    if nat_eq op 0o1 then after_move high s value target  -- MOV, MOVB
+    else (if nat_eq op 0o2 then after_compare high s value target  -- CMP, CMPB
+    else (if nat_eq op 0o3 then after_bit_test high s value target  -- BIT, BITB
+    else (if nat_eq op 0o4 then after_bit_clear high s value target  -- BIC, BICB
+    else (if nat_eq op 0o5 then after_bit_set high s value target  -- BIS, BISB
+    else (if high then after_subtract s value target  -- SUB
+    else after_add s value target)))))  -- ADD
 
 -- bit 15 says that the operands are bytes; but ADD and SUB, which it tells apart, have words
 abbrev pub is_byte : ℕ → Bool → Bool

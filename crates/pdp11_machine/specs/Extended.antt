@@ -78,9 +78,9 @@ after_shift r word s =
 -- what an instruction does with a register and its operand's word, by bits 9 to 11
 unfoldable pub after_arithmetic : ℕ → ℕ → ℕ → MachineState → MachineState
 after_arithmetic op r word s =
-    if nat_eq op 0o0 then after_multiply r word s         -- MUL
-    else (if nat_eq op 0o1 then after_divide r word s     -- DIV
-    else after_shift r word s)                            -- ASH
+    if nat_eq op 0o0 then after_multiply r word s  -- MUL
+    else (if nat_eq op 0o1 then after_divide r word s  -- DIV
+    else after_shift r word s)  -- ASH
 
 -- XOR: the register is the source, and the operand the destination
 abbrev pub after_exclusive_or : ℕ → Ea → MachineState → MachineState × Option Unit
@@ -99,4 +99,4 @@ after_operand_arithmetic op r source s =
 abbrev pub after_register_operand : ℕ → ℕ → Ea → MachineState → MachineState × Option Unit
 after_register_operand op r operand s =
     if nat_eq op 0o4 then after_exclusive_or r operand s  -- XOR
-    else after_operand_arithmetic op r operand s          -- MUL, DIV, ASH
+    else after_operand_arithmetic op r operand s  -- MUL, DIV, ASH

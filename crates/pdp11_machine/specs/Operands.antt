@@ -52,12 +52,12 @@ after_deferral deferred s a = (s, deferred_address deferred s a)
 -- the address of an operand that is no register, of a word or a byte
 abbrev pub operand_address : Bool → ℕ → ℕ → MachineState → MachineState × Option ℕ
 operand_address byte mode r s =
-    if nat_eq mode 1 then (s, Some (reg s r))                                               -- (R)
-    else (if nat_le mode 3 then                                                             -- (R)+, @(R)+
-      and_then (after_increment (byte && nat_eq mode 2) r s) (after_deferral (nat_eq mode 3))
-    else (if nat_le mode 5 then                                                             -- -(R), @-(R)
-      and_then (after_decrement (byte && nat_eq mode 4) r s) (after_deferral (nat_eq mode 5))
-    else and_then (after_index r s) (after_deferral (nat_eq mode 7))))                      -- X(R), @X(R)
+    if nat_eq mode 1 then (s, Some (reg s r))  -- (R)
+    else (if nat_le mode 3 then  -- (R)+, @(R)+
+    and_then (after_increment (byte && nat_eq mode 2) r s) (after_deferral (nat_eq mode 3))
+    else (if nat_le mode 5 then  -- -(R), @-(R)
+    and_then (after_decrement (byte && nat_eq mode 4) r s) (after_deferral (nat_eq mode 5))
+    else and_then (after_index r s) (after_deferral (nat_eq mode 7))))  -- X(R), @X(R)
 
 -- the register of a place is one of the eight
 abbrev pub IsRegistered : Place → Type 0

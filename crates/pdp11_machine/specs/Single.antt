@@ -20,7 +20,7 @@ after_jump target s =
 abbrev pub after_clear : Bool → Ea → MachineState → MachineState × Option Unit
 after_clear byte target s =
     and_then (operand_place byte target.mode target.register s) (λ t p.
-      with_flags (flags_of 0 false false) (after_value_store byte t p 0))
+    with_flags (flags_of 0 false false) (after_value_store byte t p 0))
 
 -- TST, TSTB
 abbrev pub after_test : Bool → Ea → MachineState → MachineState × Option Unit
@@ -33,14 +33,14 @@ abbrev pub after_swap : Ea → MachineState → MachineState × Option Unit
 after_swap target s =
     and_then (operand_place false target.mode target.register s) (λ t p.
     and_then (t, word_in t p) (λ u v.
-      with_flags (flags_by true (v / 256) false false) (after_store u p (v / 256 + v % 256 * 256))))
+    with_flags (flags_by true (v / 256) false false) (after_store u p (v / 256 + v % 256 * 256))))
 
 -- SXT: -1 or 0 by N; Z is set where N is 0
 abbrev pub after_sign_extend : Ea → MachineState → MachineState × Option Unit
 after_sign_extend target s =
     and_then (operand_place false target.mode target.register s) (λ t p.
-      with_flags (record t.flags { zero = not t.flags.negative; overflow = false })
-        (after_store t p (if t.flags.negative then 0o177777 else 0)))
+    with_flags (record t.flags { zero = not t.flags.negative; overflow = false })
+    (after_store t p (if t.flags.negative then 0o177777 else 0)))
 
 -- the flags of what an instruction made of its operand
 abbrev pub flags_after : Bool → Outcome → Flags
@@ -51,15 +51,15 @@ abbrev pub after_change : ℕ → Bool → Ea → MachineState → MachineState 
 after_change op byte target s =
     and_then (operand_place byte target.mode target.register s) (λ t p.
     and_then (t, value_in byte t p) (λ u v.
-      with_flags (flags_after byte (outcome_of op byte u.flags.carry v))
-        (after_value_store byte u p (outcome_of op byte u.flags.carry v).value)))
+    with_flags (flags_after byte (outcome_of op byte u.flags.carry v))
+    (after_value_store byte u p (outcome_of op byte u.flags.carry v).value)))
 
 -- an instruction of one operand, by bits 6 to 14 and bit 15
 abbrev pub after_single_operand : ℕ → Bool → Ea → MachineState → MachineState × Option Unit
 after_single_operand op high target s =
-    if nat_eq op 0o001 then after_jump target s               -- JMP
-    else (if nat_eq op 0o003 then after_swap target s         -- SWAB
-    else (if nat_eq op 0o050 then after_clear high target s   -- CLR, CLRB
-    else (if nat_eq op 0o057 then after_test high target s    -- TST, TSTB
+    if nat_eq op 0o001 then after_jump target s  -- JMP
+    else (if nat_eq op 0o003 then after_swap target s  -- SWAB
+    else (if nat_eq op 0o050 then after_clear high target s  -- CLR, CLRB
+    else (if nat_eq op 0o057 then after_test high target s  -- TST, TSTB
     else (if nat_eq op 0o067 then after_sign_extend target s  -- SXT
-    else after_change op high target s))))                    -- COM .. SBC, ROR .. ASL
+    else after_change op high target s))))  -- COM .. SBC, ROR .. ASL

@@ -29,10 +29,10 @@ with_end word p = (p.0, end_at word p.1)
 -- the instructions with no field, by their word
 abbrev pub after_bare : ℕ → ℕ → MachineState → MachineState × StepEnd
 after_bare n word s =
-    if nat_eq n 0o000000 then (s, Halted)                                   -- HALT
-    else (if nat_eq n 0o000003 then (s, Trap vector.BREAKPOINT word)        -- BPT
-    else (if nat_eq n 0o000004 then (s, Trap vector.INPUT_OUTPUT word)      -- IOT
-    else with_end word (after_resume s)))                                   -- RTI, RTT
+    if nat_eq n 0o000000 then (s, Halted)  -- HALT
+    else (if nat_eq n 0o000003 then (s, Trap vector.BREAKPOINT word)  -- BPT
+    else (if nat_eq n 0o000004 then (s, Trap vector.INPUT_OUTPUT word)  -- IOT
+    else with_end word (after_resume s)))  -- RTI, RTT
 
 -- what an instruction does, and how it ends; its word is told at a trap
 abbrev pub after_instruction : Instr → ℕ → MachineState → MachineState × StepEnd

@@ -20,9 +20,8 @@ mod take_trap;
 pub mod vectors;
 mod words;
 
-pub use size::{MEMORY_BYTES, MEMORY_WORDS, REGISTERS};
-
 use dice_base::NoMemory;
+pub use size::{MEMORY_BYTES, MEMORY_WORDS, REGISTERS};
 use std::alloc::Global;
 use std::marker::Model;
 
