@@ -5,5 +5,6 @@ pub mod Found
 pub mod Items
 pub mod Lists
 pub mod NamedAfter
+pub mod NumberedRows
 pub mod RowSplits
 pub mod Splits
