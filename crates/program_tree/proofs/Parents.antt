@@ -37,8 +37,8 @@ abbrev Ends : List ℕ → Type 0
 Ends path = (path ≡ []) ⊎ ((outer : List ℕ) × (place : ℕ) × (path ≡ outer ++ (place ∷ [])))
 
 ends_later : (i : ℕ) (path : List ℕ) → Ends path → Ends (i ∷ path)
-ends_later i path (inl e) = inr ([], (i, ap (λ (xs : List ℕ). i ∷ xs) e))
-ends_later i path (inr (outer, (place, e))) = inr (i ∷ outer, (place, ap (λ (xs : List ℕ). i ∷ xs) e))
+ends_later i path (inl e) = inr ([], i, ap (λ (xs : List ℕ). i ∷ xs) e)
+ends_later i path (inr (outer, place, e)) = inr (i ∷ outer, place, ap (λ (xs : List ℕ). i ∷ xs) e)
 
 ends : (path : List ℕ) → Ends path
 ends [] = inl refl
@@ -72,11 +72,11 @@ AsParent t n outer = MatchOption outer (HasNoParent n (program_rows t)) (λ m. H
 
 parent_at : (t : Tree) (n : ℕ) (path : List ℕ) → Finds t n (program_rows t) path → Ends path → AsParent t n (parent_from t (Some path))
 parent_at t n path found (inl e) = rw e (inr (subst (λ (p : List ℕ). HasPath p n (program_rows t)) e (own_text found.item, found.has)))
-parent_at t n path found (inr (outer, (i, e))) =
+parent_at t n path found (inr (outer, i, e)) =
     (let stands = subst (λ (p : List ℕ). tree_at p t ≡ Some found.item) e found.stands in
     let row = subst (λ (p : List ℕ). HasPath p n (program_rows t)) e (own_text found.item, found.has) in
     let (z, at) = outer_stands outer i (OfProgram t) found.item stands in
-    rw (e, front-append outer i, at) (own_row z outer, (i, (is_part t n i outer z at row, refl))))
+    rw (e, front-append outer i, at) (own_row z outer, i, is_part t n i outer z at row, refl))
 
 parent_found : (t : Tree) (n : ℕ) (found : Option (List ℕ)) → AsPath t n found → AsParent t n (parent_from t found)
 parent_found t n None h = inl h
@@ -94,12 +94,12 @@ abbrev AsSequence : Tree → ℕ → Option (Name × ℕ) → Type 0
 AsSequence t n place = MatchOption place (HasNoSequence n (program_rows t)) (λ r. HasSequence n r.0.0 r.1 (program_rows t))
 
 in_outer : (t : Tree) (n i : ℕ) (path : List ℕ) (z : ItemValue) (b : Bool) → is_sequence z ≡ b → IsPartAt n i (own_row z path) (program_rows t) → AsSequence t n (if b then Some (name_of (item_name z), i) else None)
-in_outer t n i path z true e part = (own_row z path, (part, (refl, sequence_text z ∙ e)))
-in_outer t n i path z false e part = inr (own_row z path, (i, (part, sequence_text z ∙ e)))
+in_outer t n i path z true e part = (own_row z path, part, refl, sequence_text z ∙ e)
+in_outer t n i path z false e part = inr (own_row z path, i, part, sequence_text z ∙ e)
 
 sequence_at : (t : Tree) (n : ℕ) (path : List ℕ) → Finds t n (program_rows t) path → Ends path → AsSequence t n (sequence_from t (Some path))
 sequence_at t n path found (inl e) = rw e (inl (inr (subst (λ (p : List ℕ). HasPath p n (program_rows t)) e (own_text found.item, found.has))))
-sequence_at t n path found (inr (outer, (i, e))) =
+sequence_at t n path found (inr (outer, i, e)) =
     (let stands = subst (λ (p : List ℕ). tree_at p t ≡ Some found.item) e found.stands in
     let row = subst (λ (p : List ℕ). HasPath p n (program_rows t)) e (own_text found.item, found.has) in
     let (z, at) = outer_stands outer i (OfProgram t) found.item stands in

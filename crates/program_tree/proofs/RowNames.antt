@@ -34,7 +34,7 @@ kind_names-is : (k : StmtKind) → kind_names k ≡ of_kind (layer (out-StmtKind
 unfolding stmt_names kind_names arm_names
 kind_names-is k = fold_out-StmtKind (List ℕ) (List ℕ) (List ℕ) of_kind of_arm of_stmt k
 
-stmt_names-is : (s : Stmt) → stmt_names s ≡ (out-Stmt s).name.0 ∷ kind_names (out-Stmt s).kind
+pub stmt_names-is : (s : Stmt) → stmt_names s ≡ (out-Stmt s).name.0 ∷ kind_names (out-Stmt s).kind
 unfolding stmt_names kind_names arm_names
 stmt_names-is s = fold_out-Stmt (List ℕ) (List ℕ) (List ℕ) of_kind of_arm of_stmt s
 

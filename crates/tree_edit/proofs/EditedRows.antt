@@ -6,12 +6,13 @@ use Rattle.pascal_tree.specs.declared.stmt.StmtKind.{StmtKind}
 use Rattle.pascal_tree.specs.declared.stmt.Arm.{Arm}
 use Rattle.pascal_tree.specs.declared.program.Tree.{Tree}
 use Rattle.pascal_tree.specs.Names.{names_within, stmt_renaming}
+use Rattle.pascal_tree.specs.Naming.{kind_numbering}
 use Rattle.pascal_tree.specs.Paths.{ItemValue, OfProgram, OfDecl, OfRoutine, OfStmt, item_name, tree_at}
 use Rattle.pascal_tree.specs.Rows.{Row, program_rows, stmt_rows}
 use Rattle.tree_names.proofs.StmtNames.{renamed_names}
 use Rattle.program_tree.specs.Lookups.{name_of}
 use Rattle.program_tree.specs.Search.{path_of}
-use Rattle.program_tree.proofs.RowNames.{stmt_row_names}
+use Rattle.program_tree.proofs.RowNames.{stmt_names-is, stmt_row_names}
 use Rattle.program_tree.proofs.Searched.{AsPath, Finds, path_found}
 use Rattle.tree_edit.specs.declared.fault.EditFault.{EditFault}
 use Rattle.tree_edit.specs.declared.fault.EditFault.TheVariants.{WrongKind, TooDeep, NamesSpent}
@@ -19,14 +20,19 @@ use Rattle.tree_edit.specs.Edited.{can_stand, last_level, are_spent, with_stmt, 
 use Rattle.tree_edit.proofs.Among.{Splits}
 use Rattle.tree_edit.proofs.NumberedRows.{renamed_rows}
 use Rattle.tree_edit.proofs.RowSplits.{rows_at, rows_split}
-use Rattle.tree_edit.proofs.Splits.{names_of_stmt}
 
 -- ---- the rows
+
+-- the outermost layer of the statement with new names
+abbrev renaming_layer : ℕ → Stmt → ℕ → Stmt-F StmtKind Arm Stmt
+renaming_layer n s next = record { name = record { 0 = n }; label = (out-Stmt s).label; kind = (kind_numbering (out-Stmt s).kind next).0 }
 
 -- the rows of the new statement have its name, and then the next ones
 named_rows : (n : ℕ) (s : Stmt) (next : ℕ) (path : List ℕ) → map (λ (r : Row). r.name) (stmt_rows (stmt_renaming n s next).0 path) ≡ n ∷ names_within (stmt_renaming n s next).0
 named_rows n s next path =
-    stmt_row_names (stmt_renaming n s next).0 path ∙ (names_of_stmt (stmt_renaming n s next).0 ∙ ap (λ (x : Stmt-F StmtKind Arm Stmt). x.name.0 ∷ names_within (stmt_renaming n s next).0) (out-roll-Stmt _))
+    stmt_row_names (stmt_renaming n s next).0 path
+    ∙ stmt_names-is (stmt_renaming n s next).0
+    ∙ ap (λ (x : Stmt-F StmtKind Arm Stmt). x.name.0 ∷ names_within (stmt_renaming n s next).0) (out-roll-Stmt (renaming_layer n s next))
 
 put_rows : (path : List ℕ) (old : Stmt) (n : ℕ) (s : Stmt) (t : Tree) → path_of n t ≡ Some path → tree_at path t ≡ Some (OfStmt old)
     → Splits (rows_at path) (program_rows t) (λ x. program_rows (with_stmt path (x, (stmt_renaming n s t.next).1) t)) old → IsEditedRows n s t (with_stmt path (stmt_renaming n s t.next) t)

@@ -45,17 +45,20 @@ stmts_in_turn xs n = (list_numbering (map stmt_numbering xs) n).0
 abbrev arms_in_turn : List Arm → ℕ → List Arm
 arms_in_turn arms n = (list_numbering (map arm_numbering arms) n).0
 
+abbrev arm_layer : Arm → ℕ → Arm-F StmtKind Arm Stmt
+arm_layer a n = record { constants = (out-Arm a).constants; body = (stmt_numbering (arm_body a) n).0 }
+
 arm_bodies : (arms : List Arm) (n : ℕ) → map arm_body (arms_in_turn arms n) ≡ stmts_in_turn (map arm_body arms) n
 arm_bodies [] n = refl
 arm_bodies (a ∷ arms) n =
     rw (arm_numbering-is a n, arm_bodies arms (stmt_numbering (arm_body a) n).1)
-    (ap (λ (x : Arm-F StmtKind Arm Stmt). x.body ∷ stmts_in_turn (map arm_body arms) (stmt_numbering (arm_body a) n).1) (out-roll-Arm _))
+    (ap (λ (x : Arm-F StmtKind Arm Stmt). x.body ∷ stmts_in_turn (map arm_body arms) (stmt_numbering (arm_body a) n).1) (out-roll-Arm (arm_layer a n)))
 
 arm_texts : (arms : List Arm) (n : ℕ) → map arm_text (arms_in_turn arms n) ≡ map arm_text arms
 arm_texts [] n = refl
 arm_texts (a ∷ arms) n =
     rw (arm_numbering-is a n, arm_texts arms (stmt_numbering (arm_body a) n).1)
-    (ap (λ (x : Arm-F StmtKind Arm Stmt). own_arm x.constants ∷ map arm_text arms) (out-roll-Arm _))
+    (ap (λ (x : Arm-F StmtKind Arm Stmt). own_arm x.constants ∷ map arm_text arms) (out-roll-Arm (arm_layer a n)))
 
 turn_holes : (xs : List Stmt) (n : ℕ) → map (λ (x : Stmt). hole) (stmts_in_turn xs n) ≡ map (λ (x : Stmt). hole) xs
 turn_holes [] n = refl
@@ -121,8 +124,12 @@ abbrev opened_rows : Stmt-F StmtKind Arm Stmt → List ℕ → List Row
 opened_rows x path =
     record { path = path; name = x.name.0; own = label_part x.label ++ own_kind arm_text (out-StmtKind x.kind) } ∷ rows_from 0 (map stmt_rows (kind_parts arm_body (out-StmtKind x.kind))) path
 
+-- the outermost layer of the statement with this name, and with names from n on inside it
+abbrev renaming_layer : ℕ → Stmt → ℕ → Stmt-F StmtKind Arm Stmt
+renaming_layer name x n = record { name = record { 0 = name }; label = (out-Stmt x).label; kind = (kind_numbering (out-Stmt x).kind n).0 }
+
 kind_renamed : (x : Stmt) (name n : ℕ) (path : List ℕ) → AllByRecursion ItemRenames (map OfStmt (stmt_children x))
-    → unnamed (opened_rows (record { name = record { 0 = name }; label = (out-Stmt x).label; kind = (kind_numbering (out-Stmt x).kind n).0 }) path) ≡ unnamed (stmt_rows x path)
+    → unnamed (opened_rows (renaming_layer name x n) path) ≡ unnamed (stmt_rows x path)
 kind_renamed x name n path h =
     (let kind = out-StmtKind (out-Stmt x).kind in
     let row : Toks → Row = λ text. record { path = path; name = 0; own = label_part (out-Stmt x).label ++ text } in
@@ -136,7 +143,7 @@ kind_renamed x name n path h =
 renames : (x : Stmt) → AllByRecursion ItemRenames (map OfStmt (stmt_children x)) → Renames x
 renames x h name n path =
     ap unnamed (stmt_opened (stmt_renaming name x n).0 path)
-    ∙ ap (λ (y : Stmt-F StmtKind Arm Stmt). unnamed (opened_rows y path)) (out-roll-Stmt _)
+    ∙ ap (λ (y : Stmt-F StmtKind Arm Stmt). unnamed (opened_rows y path)) (out-roll-Stmt (renaming_layer name x n))
     ∙ kind_renamed x name n path h
 
 pub renamed_rows : (name : ℕ) (x : Stmt) (n : ℕ) (path : List ℕ) → unnamed (stmt_rows (stmt_renaming name x n).0 path) ≡ unnamed (stmt_rows x path)
