@@ -84,7 +84,7 @@ stmt_step P from y =
     (let parts = subst (λ (x : Stmt-F StmtKind Arm Stmt). KindHas P x.kind) (sym (out-roll-Stmt (stmt_of P y))) y.kind.1 in
     from (OfStmt (roll-Stmt (stmt_of P y))) (all_images P OfStmt (stmt_children (roll-Stmt (stmt_of P y))) parts))
 
-stmt_has : (P : ItemValue → Type 0) → FromParts P → (s : Stmt) → StmtHas P s
+pub stmt_has : (P : ItemValue → Type 0) → FromParts P → (s : Stmt) → StmtHas P s
 stmt_has P from = ind-Stmt (KindHas P) (ArmHas P) (StmtHas P)
     (λ x y is. subst (λ z. KindHas P (roll-StmtKind z)) is (kind_step P y))
     (λ x y is. subst (λ z. ArmHas P (roll-Arm z)) is (arm_step P y))

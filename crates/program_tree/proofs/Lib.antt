@@ -1,7 +1,12 @@
 pub mod Added
+pub mod Contained
 pub mod Counted
+pub mod Indexed
 pub mod Induction
 pub mod Opened
+pub mod Parents
 pub mod RowNames
 pub mod Searched
+pub mod SequenceTexts
 pub mod Standing
+pub mod TreeSearch

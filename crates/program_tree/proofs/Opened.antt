@@ -92,21 +92,27 @@ item_rows (OfStmt s) = stmt_rows s
 abbrev pub own_row : ItemValue → List ℕ → Row
 own_row x path = record { path = path; name = item_name x; own = own_text x }
 
-stmts_rows : (xs : List Stmt) → map item_rows (map OfStmt xs) ≡ map stmt_rows xs
-stmts_rows [] = refl
-stmts_rows (x ∷ xs) = ap (λ (parts : List Rows). stmt_rows x ∷ parts) (stmts_rows xs)
+-- the parts of an item, each as f gives it
+pub stmts_mapped : {R : Type 0} (f : ItemValue → R) (xs : List Stmt) → map f (map OfStmt xs) ≡ map (λ x. f (OfStmt x)) xs
+stmts_mapped f [] = refl
+stmts_mapped {R} f (x ∷ xs) = ap (λ (parts : List R). f (OfStmt x) ∷ parts) (stmts_mapped f xs)
 
-parts_rows : (labels consts types vars : List Decl) (routines : List Routine) (body : Stmt)
-    → map item_rows (map OfDecl labels ++ (map OfDecl consts ++ (map OfDecl types ++ (map OfDecl vars ++ (map OfRoutine routines ++ (OfStmt body ∷ [])))))) ≡ map decl_rows labels ++ (map decl_rows consts ++ (map decl_rows types ++ (map decl_rows vars ++ (map routine_rows routines ++ (stmt_rows body ∷ [])))))
-parts_rows (d ∷ ls) cs ts vs rs body = ap (λ (parts : List Rows). decl_rows d ∷ parts) (parts_rows ls cs ts vs rs body)
-parts_rows [] (d ∷ cs) ts vs rs body = ap (λ (parts : List Rows). decl_rows d ∷ parts) (parts_rows [] cs ts vs rs body)
-parts_rows [] [] (d ∷ ts) vs rs body = ap (λ (parts : List Rows). decl_rows d ∷ parts) (parts_rows [] [] ts vs rs body)
-parts_rows [] [] [] (d ∷ vs) rs body = ap (λ (parts : List Rows). decl_rows d ∷ parts) (parts_rows [] [] [] vs rs body)
-parts_rows [] [] [] [] (r ∷ rs) body = ap (λ (parts : List Rows). routine_rows r ∷ parts) (parts_rows [] [] [] [] rs body)
-parts_rows [] [] [] [] [] body = refl
+parts_mapped : {R : Type 0} (f : ItemValue → R) (labels consts types vars : List Decl) (routines : List Routine) (body : Stmt)
+    → map f (map OfDecl labels ++ (map OfDecl consts ++ (map OfDecl types ++ (map OfDecl vars ++ (map OfRoutine routines ++ (OfStmt body ∷ []))))))
+    ≡ map (λ d. f (OfDecl d)) labels ++ (map (λ d. f (OfDecl d)) consts ++ (map (λ d. f (OfDecl d)) types ++ (map (λ d. f (OfDecl d)) vars ++ (map (λ r. f (OfRoutine r)) routines ++ (f (OfStmt body) ∷ [])))))
+parts_mapped {R} f (d ∷ ls) cs ts vs rs body = ap (λ (parts : List R). f (OfDecl d) ∷ parts) (parts_mapped f ls cs ts vs rs body)
+parts_mapped {R} f [] (d ∷ cs) ts vs rs body = ap (λ (parts : List R). f (OfDecl d) ∷ parts) (parts_mapped f [] cs ts vs rs body)
+parts_mapped {R} f [] [] (d ∷ ts) vs rs body = ap (λ (parts : List R). f (OfDecl d) ∷ parts) (parts_mapped f [] [] ts vs rs body)
+parts_mapped {R} f [] [] [] (d ∷ vs) rs body = ap (λ (parts : List R). f (OfDecl d) ∷ parts) (parts_mapped f [] [] [] vs rs body)
+parts_mapped {R} f [] [] [] [] (r ∷ rs) body = ap (λ (parts : List R). f (OfRoutine r) ∷ parts) (parts_mapped f [] [] [] [] rs body)
+parts_mapped f [] [] [] [] [] body = refl
+
+pub block_mapped : {R : Type 0} (f : ItemValue → R) (b : Block) → map f (block_children b)
+    ≡ map (λ d. f (OfDecl d)) (option_to_list (out-Block b).labels) ++ (map (λ d. f (OfDecl d)) (out-Block b).consts ++ (map (λ d. f (OfDecl d)) (out-Block b).types ++ (map (λ d. f (OfDecl d)) (out-Block b).vars ++ (map (λ r. f (OfRoutine r)) (out-Block b).routines ++ (f (OfStmt (out-Block b).body) ∷ [])))))
+block_mapped f b = parts_mapped f (option_to_list (out-Block b).labels) (out-Block b).consts (out-Block b).types (out-Block b).vars (out-Block b).routines (out-Block b).body
 
 block_opened : (b : Block) (path : List ℕ) → block_rows b path ≡ rows_from 0 (map item_rows (block_children b)) path
-block_opened b path = block_rows-is b path ∙ ap (λ (parts : List Rows). rows_from 0 parts path) (sym (parts_rows (option_to_list (out-Block b).labels) (out-Block b).consts (out-Block b).types (out-Block b).vars (out-Block b).routines (out-Block b).body))
+block_opened b path = block_rows-is b path ∙ ap (λ (parts : List Rows). rows_from 0 parts path) (sym (block_mapped item_rows b))
 
 any_opened : (b : Option Block) (path : List ℕ) → any_rows (option_map block_rows b) path ≡ rows_from 0 (map item_rows (any_children b)) path
 any_opened None path = refl
@@ -130,4 +136,4 @@ item_opened (OfDecl d) path = refl
 item_opened (OfRoutine r) path =
     routine_rows-is r path ∙ ap (λ (rows : List Row). own_row (OfRoutine r) path ∷ rows) (block_of_layer (out-Routine r).name (out-Routine r).heading (out-Routine r).block path ∙ any_opened (out-Routine r).block path)
 item_opened (OfStmt s) path =
-    stmt_opened s path ∙ ap (λ (parts : List Rows). own_row (OfStmt s) path ∷ rows_from 0 parts path) (sym (stmts_rows (stmt_children s)))
+    stmt_opened s path ∙ ap (λ (parts : List Rows). own_row (OfStmt s) path ∷ rows_from 0 parts path) (sym (stmts_mapped item_rows (stmt_children s)))

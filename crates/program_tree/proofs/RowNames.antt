@@ -15,10 +15,10 @@ use Rattle.pascal_tree.specs.declared.decl.Block.TheFolds.{map-Routine, fold_out
 use Rattle.pascal_tree.specs.declared.program.Tree.{Tree}
 use Rattle.pascal_tree.specs.Names.{any_names, of_kind, of_arm, of_stmt, stmt_names, kind_names, arm_names, decl_names, label_names, of_block, of_routine, block_names, routine_names, program_names}
 use Rattle.pascal_tree.specs.Paths.{ItemValue, OfProgram, OfDecl, OfRoutine, OfStmt, kind_parts, arm_body, stmt_children, block_children, any_children, item_children, item_name}
-use Rattle.pascal_tree.specs.Rows.{Row, rows_from, program_rows}
+use Rattle.pascal_tree.specs.Rows.{Row, rows_from, stmt_rows, program_rows}
 use Rattle.program_tree.specs.Named.{IsNamed}
-use Rattle.program_tree.proofs.Induction.{tree_has}
-use Rattle.program_tree.proofs.Opened.{item_rows, item_opened}
+use Rattle.program_tree.proofs.Induction.{stmt_has, tree_has}
+use Rattle.program_tree.proofs.Opened.{item_rows, item_opened, stmts_mapped}
 
 -- ---- statements
 
@@ -34,7 +34,7 @@ kind_names-is : (k : StmtKind) → kind_names k ≡ of_kind (layer (out-StmtKind
 unfolding stmt_names kind_names arm_names
 kind_names-is k = fold_out-StmtKind (List ℕ) (List ℕ) (List ℕ) of_kind of_arm of_stmt k
 
-stmt_names-is : (s : Stmt) → stmt_names s ≡ (out-Stmt s).name.0 ∷ kind_names (out-Stmt s).kind
+pub stmt_names-is : (s : Stmt) → stmt_names s ≡ (out-Stmt s).name.0 ∷ kind_names (out-Stmt s).kind
 unfolding stmt_names kind_names arm_names
 stmt_names-is s = fold_out-Stmt (List ℕ) (List ℕ) (List ℕ) of_kind of_arm of_stmt s
 
@@ -66,10 +66,6 @@ item_names (OfProgram p) = program_names p
 item_names (OfDecl d) = d.name.0 ∷ []
 item_names (OfRoutine r) = routine_names r
 item_names (OfStmt s) = stmt_names s
-
-stmts_names : (xs : List Stmt) → map item_names (map OfStmt xs) ≡ map stmt_names xs
-stmts_names [] = refl
-stmts_names (x ∷ xs) = ap (λ (parts : List (List ℕ)). stmt_names x ∷ parts) (stmts_names xs)
 
 label_names-is : (labels : Option Decl) → label_names labels ≡ decl_names (option_to_list labels)
 label_names-is None = refl
@@ -110,7 +106,7 @@ names_opened (OfProgram p) = ap (λ (ns : List ℕ). 1 ∷ ns) (block_opened p.b
 names_opened (OfDecl d) = refl
 names_opened (OfRoutine r) = routine_names-is r ∙ ap (λ (ns : List ℕ). (out-Routine r).name.0 ∷ ns) (any_opened (out-Routine r).name (out-Routine r).heading (out-Routine r).block)
 names_opened (OfStmt s) =
-    stmt_names-is s ∙ ap (λ (ns : List ℕ). (out-Stmt s).name.0 ∷ ns) (kind_names-is (out-Stmt s).kind ∙ (parts_names (out-StmtKind (out-Stmt s).kind) ∙ ap (λ (parts : List (List ℕ)). concat parts) (sym (stmts_names (stmt_children s)))))
+    stmt_names-is s ∙ ap (λ (ns : List ℕ). (out-Stmt s).name.0 ∷ ns) (kind_names-is (out-Stmt s).kind ∙ (parts_names (out-StmtKind (out-Stmt s).kind) ∙ ap (λ (parts : List (List ℕ)). concat parts) (sym (stmts_mapped item_names (stmt_children s)))))
 
 -- ---- rows
 
@@ -131,6 +127,9 @@ by_parts x h path =
 
 pub row_names : (t : Tree) → map (λ (r : Row). r.name) (program_rows t) ≡ program_names t
 row_names t = tree_has Agrees by_parts t []
+
+pub stmt_row_names : (s : Stmt) (path : List ℕ) → map (λ (r : Row). r.name) (stmt_rows s path) ≡ stmt_names s
+stmt_row_names s path = stmt_has Agrees by_parts s path
 
 pub once_each : (t : Tree) → IsNamed t → IsDistinct eqb (map (λ (r : Row). r.name) (program_rows t))
 once_each t h = subst (λ (ns : List ℕ). IsDistinct eqb ns) (sym (row_names t)) h.differ

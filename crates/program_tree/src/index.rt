@@ -1,16 +1,17 @@
-//! The index of a program: the name of each item, and where it stands.
-ghost use Rattle.std.specs.Prelude.{◌≡◌, ◌+◌, [], ◌∷◌, ◌++◌, length, map, option_copied, option_to_list, IfOk, OnOk, MatchResult};
-ghost use Rattle.program_tree.specs.Lookups.{entry_of, index_of, path_in};
+//! The index of a program: the path of each item under its name.
+ghost use Rattle.std.specs.Prelude.{◌≡◌, ℕ, ◌+◌, [], ◌∷◌, ◌++◌, length, map, option_copied, option_to_list, if◌then◌else◌, nat_eq, Some, IfOk, OnOk, MatchResult};
 ghost use Rattle.pascal_tree.specs.Rows.{any_rows, arm_rows, block_rows, decl_rows, kind_rows, routine_rows, rows_from, stmt_rows};
-ghost use Rattle.program_tree.specs.Entries.{AddsRows};
+ghost use Rattle.indexmap.specs.IndexMap.{get};
+ghost use Rattle.program_tree.specs.Entries.{AddsRows, HasPathsOf, IsIndexOf, entries_of, entry_of};
 
 use dice_base::{Name, NoMemory, one_more};
+use indexmap::IndexMap;
 use pascal_tree::{Arm, Block, Decl, Routine, Stmt, StmtKind, Tree};
 use sqlite_items::Items;
 use std::alloc::Global;
 
 /// The name of an item, and its path: the places among the parts of what it stands in, from the program on.
-#[derive(Debug, Drop)]
+#[derive(Drop)]
 pub struct Entry {
     pub name: Name,
     pub path: Items<u32>,
@@ -39,7 +40,7 @@ fn push_entry(
 }
 
 #[cycle(push_stmt)]
-#[tactic(auto, unfolding(crate::specs::Rows::stmt_rows, crate::specs::Rows::kind_rows, crate::specs::Rows::arm_rows))]
+#[tactic(auto, unfolding(pascal_tree::specs::Rows::stmt_rows, pascal_tree::specs::Rows::kind_rows, pascal_tree::specs::Rows::arm_rows))]
 fn push_stmt(
     alloc: Global,
     stmt: &Stmt,
@@ -53,7 +54,7 @@ fn push_stmt(
 }
 
 #[cycle(push_stmt)]
-#[tactic(auto, unfolding(crate::specs::Rows::stmt_rows, crate::specs::Rows::kind_rows, crate::specs::Rows::arm_rows))]
+#[tactic(auto, unfolding(pascal_tree::specs::Rows::stmt_rows, pascal_tree::specs::Rows::kind_rows, pascal_tree::specs::Rows::arm_rows))]
 fn push_kind(
     alloc: Global,
     kind: &StmtKind,
@@ -110,7 +111,7 @@ fn push_stmts(
 }
 
 #[cycle(push_stmt)]
-#[tactic(auto, unfolding(crate::specs::Rows::stmt_rows, crate::specs::Rows::kind_rows, crate::specs::Rows::arm_rows))]
+#[tactic(auto, unfolding(pascal_tree::specs::Rows::stmt_rows, pascal_tree::specs::Rows::kind_rows, pascal_tree::specs::Rows::arm_rows))]
 fn push_arm(
     alloc: Global,
     arm: &Arm,
@@ -130,7 +131,8 @@ fn push_arms(
     path: &[u32],
     out: &mut Items<Entry>,
 ) -> Result<(), NoMemory>
-    ensures { OnOk result (out.new ≡ out.old ++ map entry_of (rows_from 0 (map (λ arm. arm.1) (map arm_rows arms.now)) path.now)) }
+    ensures { OnOk result
+        (out.new ≡ out.old ++ map entry_of (rows_from 0 (map (λ arm. arm.1) (map arm_rows arms.now)) path.now)) }
 {
     let mut at = 0;
     for arm in arms {
@@ -153,7 +155,7 @@ fn push_decl(
     push_entry(alloc, decl.name, path.as_slice(), out)
 }
 
-// Declarations from this place on, and the place behind them.
+// Declarations from this place on, and the place after them.
 fn push_decls(
     alloc: Global,
     decls: &[Decl],
@@ -188,7 +190,7 @@ fn push_labels(
     }
 }
 
-// Each part begins at the place behind the one before it.
+// Each part begins at the place after the one before it.
 #[cycle(push_block)]
 fn push_block(
     alloc: Global,
@@ -207,7 +209,7 @@ fn push_block(
 }
 
 #[cycle(push_block)]
-#[tactic(auto, unfolding(crate::specs::Rows::block_rows, crate::specs::Rows::routine_rows))]
+#[tactic(auto, unfolding(pascal_tree::specs::Rows::block_rows, pascal_tree::specs::Rows::routine_rows))]
 fn push_routine(
     alloc: Global,
     routine: &Routine,
@@ -243,23 +245,58 @@ fn push_routines(
     Ok(next)
 }
 
-/// The name and the path of each item of a program, in the order of the text.
-#[tactic(auto, unfolding(crate::specs::Rows::block_rows, crate::specs::Rows::routine_rows))]
-pub fn index_program(alloc: Global, tree: &Tree) -> Result<Items<Entry>, NoMemory>
-    ensures { IfOk result (λ index. index ≡ index_of tree.now) }
+// The name and the path of each item of a program, in the order of the text.
+#[tactic(auto, unfolding(pascal_tree::specs::Rows::block_rows, pascal_tree::specs::Rows::routine_rows))]
+fn entries_of(alloc: Global, tree: &Tree) -> Result<Items<Entry>, NoMemory>
+    ensures { IfOk result (λ entries. entries ≡ entries_of tree.now) }
 {
-    let mut index = Items::new(alloc);
-    push_entry(alloc, Name(1), &[], &mut index)?;
-    push_block(alloc, &tree.block, &[], &mut index)?;
+    let mut entries = Items::new(alloc);
+    push_entry(alloc, Name(1), &[], &mut entries)?;
+    push_block(alloc, &tree.block, &[], &mut entries)?;
+    Ok(entries)
+}
+
+// Puts the path of an entry under its name, where another may be.
+fn insert_path(index: &mut IndexMap<u32, Items<u32>>, entry: Entry) -> Result<(), NoMemory>
+    ensures { let old = get nat_eq index.old in
+        OnOk result
+        ((n : ℕ) → get nat_eq index.new n ≡ (if nat_eq entry.name.0 n then Some entry.path else old n)) }
+{
+    let Entry { name, path } = entry;
+    index.insert(name.0, path)?;
+    Ok(())
+}
+
+// The entries are put in from the last one on: so of entries with one name the first stays.
+fn index_entries(
+    alloc: Global,
+    entries: Items<Entry>,
+) -> Result<IndexMap<u32, Items<u32>>, NoMemory>
+    ensures { IfOk result (HasPathsOf entries) }
+{
+    let mut entries = entries;
+    let mut index = IndexMap::new(alloc);
+    while let Some(entry) = entries.pop() {
+        insert_path(&mut index, entry)?;
+    }
     Ok(index)
 }
 
-/// The path of the first entry with this name, if there is one.
-pub fn find_path(entries: &[Entry], name: Name) -> Option<&[u32]>
-    ensures { option_copied result ≡ path_in name.0 entries.now }
+/// The path of each item of a program, under its name.
+#[tactic(auto, using(crate::proofs::TreeSearch::path_in_entries))]
+pub fn index_program(alloc: Global, tree: &Tree) -> Result<IndexMap<u32, Items<u32>>, NoMemory>
+    ensures { IfOk result (IsIndexOf tree.now) }
 {
-    match entries.iter().find(|entry| entry.name.0 == name.0) {
-        Some(entry) => Some(entry.path.as_slice()),
+    let entries = entries_of(alloc, tree)?;
+    index_entries(alloc, entries)
+}
+
+/// The path under a name, if there is one.
+pub fn find_path(index: &IndexMap<u32, Items<u32>>, name: Name) -> Option<&[u32]>
+    ensures { option_copied result ≡ get nat_eq index.now name.0 }
+{
+    match index.get(&name.0) {
+        Some(path) => Some(path.as_slice()),
         None => None,
     }
 }

@@ -75,14 +75,15 @@ fn stmt_child(stmt: &Stmt, at: usize) -> Option<&Stmt>
     }
 }
 
-// What stands at a place: an item, or what stands behind the items, so many places further.
+// What stands at a place: an item, or what follows the items, so many places further.
 enum Place<'a> {
     Here(Item<'a>),
     Behind(usize),
 }
 
 fn label_place(labels: &Option<Decl>, at: usize) -> Place<'_>
-    ensures { (rest : List ItemValue) → slice_get (map OfDecl (option_to_list labels.now) ++ rest) at ≡ at_place rest result }
+    ensures { (rest : List ItemValue)
+        → slice_get (map OfDecl (option_to_list labels.now) ++ rest) at ≡ at_place rest result }
 {
     match labels {
         Some(labels) => {

@@ -1,16 +1,12 @@
 //! Programs whose items have names, and the way from a name to its item.
 //!
-//! `specs/Named` says what the names are, `specs/Paths` where items stand, `specs/Rows` what a program is as a list of
-//! its items, and `specs/Lookups` what the index says.
+//! `specs/Named` says what the names are, `specs/Search` which path leads to the item with a name, `specs/Lookups` what
+//! a look-up gives, and `specs/Found` what the list of all items says of it.
 #![tactic(auto)]
 
 mod index;
 mod item;
 mod program;
 
-pub use index::Entry;
 pub use item::Item;
 pub use program::Program;
-
-#[cfg(test)]
-mod tests;

@@ -2,14 +2,16 @@
 ghost use Rattle.std.specs.Prelude.{◌≡◌, ◌≤◌, IfOk, MatchOption, option_map, option_copied};
 ghost use Rattle.pascal_tree.specs.Names.{Counts, program_names};
 ghost use Rattle.program_tree.specs.Named.{IsNamed};
-ghost use Rattle.program_tree.specs.Found.{HasNoRow, HasRow, HaveOwnNames};
+ghost use Rattle.program_tree.specs.Found.{HasNoParent, HasNoRow, HasNoSequence, HasParent, HasPath, HasRow, HasSequence, HaveOwnNames};
 ghost use Rattle.pascal_tree.specs.Paths.{last_place};
 ghost use Rattle.pascal_tree.specs.Rows.{own_text, program_rows};
-ghost use Rattle.program_tree.specs.Lookups.{around, item_named, item_value, path_of, parent_of, place_in, sequence_of};
+ghost use Rattle.program_tree.specs.Lookups.{item_named, item_value, outer_at, parent_of, sequence_of, sequence_place};
+ghost use Rattle.program_tree.specs.Search.{path_of};
 
-use crate::index::{Entry, find_path, index_program};
+use crate::index::{find_path, index_program};
 use crate::item::{Item, find_at, has_statements, name_of_item};
 use dice_base::{Name, NoMemory, Text};
+use indexmap::IndexMap;
 use pascal_tree::{Block, Tree, copy_program};
 use sqlite_items::Items;
 use std::alloc::Global;
@@ -19,14 +21,14 @@ use std::marker::Model;
 #[derive(Drop)]
 pub struct Program {
     tree: Tree,
-    index: Items<Entry>,
+    index: IndexMap<u32, Items<u32>>,
 }
 
 impl Model for Program {
     ghost use Rattle.std.specs.Prelude.{◌≡◌};
     ghost use Rattle.pascal_tree.specs.declared.program.Tree.{Tree};
     ghost use Rattle.program_tree.specs.Named.{IsNamed};
-    ghost use Rattle.program_tree.specs.Lookups.{index_of};
+    ghost use Rattle.program_tree.specs.Entries.{IsIndexOf};
     ghost use Rattle.pascal_tree.specs.contracts.decl.Block as block_type;
     ghost use Rattle.std.specs.Coded.{codes};
 
@@ -36,7 +38,7 @@ impl Model for Program {
 
     ghost view = { λ p. p.tree };
 
-    ghost invariant = { λ p. IsNamed p.tree × (p.index ≡ index_of p.tree) };
+    ghost invariant = { λ p. IsNamed p.tree × IsIndexOf p.tree p.index };
 }
 
 // The tree, with its index.
@@ -92,7 +94,7 @@ impl Program {
         indexed_in_turn(alloc, tree, next)
     }
 
-    /// Its tree.
+    /// The tree of the program.
     pub fn tree(&self) -> &Tree
         ensures value { result.now ≡ self.now }
         ensures named { IsNamed self.now }
@@ -100,21 +102,21 @@ impl Program {
         &self.tree
     }
 
-    /// Its identifier.
+    /// The identifier of the program.
     pub fn ident(&self) -> &Text
         ensures { result.now ≡ self.now.ident }
     {
         &self.tree.ident
     }
 
-    /// Its program parameters.
+    /// The program parameters.
     pub fn files(&self) -> &Items<Text>
         ensures { result.now ≡ self.now.files }
     {
         &self.tree.files
     }
 
-    /// Its declarations and its body.
+    /// The declarations and the body.
     pub fn block(&self) -> &Block
         ensures { result.now ≡ self.now.block }
     {
@@ -128,7 +130,7 @@ impl Program {
         self.tree.next
     }
 
-    /// Another program of the same items.
+    /// A copy: the same items with the same names.
     pub fn copy(&self, alloc: Global) -> Result<Program, NoMemory>
         ensures { IfOk result (λ p. p ≡ self.now) }
     {
@@ -136,25 +138,36 @@ impl Program {
         indexed(alloc, tree)
     }
 
-    /// Another program of the same items, with this next name.
+    /// A copy with this next name.
     #[tactic(auto, using(crate::proofs::Counted::named_later))]
     pub fn copy_next(&self, alloc: Global, next: u32) -> Result<Program, NoMemory>
         requires { self.now.next ≤ next }
-        ensures { IfOk result (λ p. p ≡ record { ident = self.now.ident; files = self.now.files; block = self.now.block; next = next }) }
+        ensures { let tree = self.now in
+            IfOk result (λ p. p ≡ record { ident = tree.ident; files = tree.files; block = tree.block; next = next }) }
     {
         let mut tree = copy_program(alloc, &self.tree)?;
         tree.next = next;
         indexed(alloc, tree)
     }
 
-    /// The path of the item with this name, if there is one.
-    pub fn path_of(&self, name: Name) -> Option<&[u32]>
+    // The path of the item with this name.
+    fn indexed_path(&self, name: Name) -> Option<&[u32]>
         ensures { option_copied result ≡ path_of name.0 self.now }
     {
-        find_path(self.index.as_slice(), name)
+        find_path(&self.index, name)
     }
 
-    // The item with this name, if there is one.
+    /// The path of the item with this name: the place of each item on the way to it, counted from 0. `None` where no item
+    /// has the name.
+    pub fn path_of(&self, name: Name) -> Option<&[u32]>
+        ensures value { option_copied result ≡ path_of name.0 self.now }
+        ensures rows { let rows = program_rows self.now in
+            MatchOption result (HasNoRow name.0 rows) (λ path. HasPath path.now name.0 rows) }
+    {
+        self.indexed_path(name)
+    }
+
+    // The item with this name.
     #[tactic(auto, using(crate::proofs::RowNames::once_each))]
     fn item_named(&self, name: Name) -> Option<Item<'_>>
         ensures value { option_map item_value result ≡ item_named name.0 self.now }
@@ -166,21 +179,22 @@ impl Program {
         }
     }
 
-    /// The item with this name, if there is one.
+    /// The item with this name. `None` where no item has it.
     pub fn find(&self, name: Name) -> Option<Item<'_>>
         ensures value { option_map item_value result ≡ item_named name.0 self.now }
-        ensures rows { MatchOption result (HasNoRow name.0 (program_rows self.now)) (λ x. HasRow name.0 (own_text (item_value x)) (program_rows self.now)) }
+        ensures rows { let rows = program_rows self.now in
+            MatchOption result (HasNoRow name.0 rows) (λ x. HasRow name.0 (own_text (item_value x)) rows) }
         ensures once { HaveOwnNames (program_rows self.now) }
     {
         self.item_named(name)
     }
 
-    /// The name of what the item with this name stands in, if there is one.
-    pub fn parent(&self, name: Name) -> Option<Name>
+    // The name of what the item with this name stands in.
+    fn outer_name(&self, name: Name) -> Option<Name>
         ensures { result ≡ parent_of name.0 self.now }
     {
         match self.path_of(name) {
-            Some(path) => match self.around(path) {
+            Some(path) => match self.outer_at(path) {
                 Some(outer) => Some(name_of_item(outer)),
                 None => None,
             },
@@ -188,9 +202,18 @@ impl Program {
         }
     }
 
+    /// The name of what the item with this name stands in. `None` where no item has the name, and for the program itself.
+    pub fn parent(&self, name: Name) -> Option<Name>
+        ensures value { result ≡ parent_of name.0 self.now }
+        ensures rows { let rows = program_rows self.now in
+            MatchOption result (HasNoParent name.0 rows) (λ outer. HasParent name.0 outer.0 rows) }
+    {
+        self.outer_name(name)
+    }
+
     // What the item at a path stands in.
-    fn around(&self, path: &[u32]) -> Option<Item<'_>>
-        ensures { option_map item_value result ≡ around path.now self.now }
+    fn outer_at(&self, path: &[u32]) -> Option<Item<'_>>
+        ensures { option_map item_value result ≡ outer_at path.now self.now }
     {
         match path.len() {
             0 => None,
@@ -199,10 +222,10 @@ impl Program {
     }
 
     // The statement in whose sequence the item at a path stands, and its place there.
-    fn place_at(&self, path: &[u32]) -> Option<(Name, u32)>
-        ensures { result ≡ place_in (around path.now self.now) (last_place path.now) }
+    fn place_in_sequence(&self, path: &[u32]) -> Option<(Name, u32)>
+        ensures { result ≡ sequence_place (outer_at path.now self.now) (last_place path.now) }
     {
-        match (self.around(path), path.last()) {
+        match (self.outer_at(path), path.last()) {
             (Some(outer), Some(place)) => {
                 if has_statements(outer) {
                     Some((name_of_item(outer), *place))
@@ -214,14 +237,23 @@ impl Program {
         }
     }
 
-    /// The compound or `repeat` statement in whose sequence the item with this name stands, and its place there,
-    /// counted from 0.
-    pub fn sequence_of(&self, name: Name) -> Option<(Name, u32)>
+    // The statement in whose sequence the item with this name stands, and its place there.
+    fn sequence_with(&self, name: Name) -> Option<(Name, u32)>
         ensures { result ≡ sequence_of name.0 self.now }
     {
         match self.path_of(name) {
-            Some(path) => self.place_at(path),
+            Some(path) => self.place_in_sequence(path),
             None => None,
         }
+    }
+
+    /// The compound or `repeat` statement in whose sequence the item with this name stands, and its place there,
+    /// counted from 0. `None` where no item has the name, and for one that stands in no sequence.
+    pub fn sequence_of(&self, name: Name) -> Option<(Name, u32)>
+        ensures value { result ≡ sequence_of name.0 self.now }
+        ensures rows { let rows = program_rows self.now in
+            MatchOption result (HasNoSequence name.0 rows) (λ place. HasSequence name.0 place.0.0 place.1 rows) }
+    {
+        self.sequence_with(name)
     }
 }

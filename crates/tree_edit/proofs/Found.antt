@@ -3,7 +3,8 @@ use Rattle.std.proofs.Common.{◌≡◌, ℕ, List, Option, Some, None, Result, 
 use Rattle.pascal_tree.specs.declared.stmt.Stmt.{Stmt}
 use Rattle.pascal_tree.specs.declared.program.Tree.{Tree}
 use Rattle.pascal_tree.specs.Paths.{ItemValue, tree_at}
-use Rattle.program_tree.specs.Lookups.{name_of, path_of, item_named}
+use Rattle.program_tree.specs.Lookups.{name_of, item_named}
+use Rattle.program_tree.specs.Search.{path_of}
 use Rattle.tree_edit.specs.declared.fault.EditFault.{EditFault}
 use Rattle.tree_edit.specs.declared.fault.EditFault.TheVariants.{NoSuchName}
 use Rattle.tree_edit.specs.Edited.{Gives, replaced_at, replaced_found, replaced_program, stmt_of}

@@ -4,6 +4,7 @@ pub mod EditedRows
 pub mod Found
 pub mod Items
 pub mod Lists
+pub mod NameSplits
 pub mod NamedAfter
+pub mod NumberedRows
 pub mod RowSplits
-pub mod Splits

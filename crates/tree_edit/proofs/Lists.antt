@@ -30,14 +30,14 @@ change_past f i [] e = refl
 change_past f zero (x ∷ xs) e = absurd cc
 change_past {A} f (suc i) (x ∷ xs) e = ap (λ (ys : List A). x ∷ ys) (change_past f i xs e)
 
-change_behind : {A : Type 0} (f : A → A) (i : ℕ) (x : A) (xs : List A) → slice_get xs i ≡ Some x → change f i xs ≡ (take i xs ++ f x ∷ []) ++ drop (suc i) xs
-change_behind f i x [] e = absurd cc
-change_behind {A} f zero x (y ∷ xs) e = (let same : y ≡ x = cc in ap (λ (z : A). f z ∷ xs) same)
-change_behind {A} f (suc i) x (y ∷ xs) e = ap (λ (ys : List A). y ∷ ys) (change_behind f i x xs e)
+change_split : {A : Type 0} (f : A → A) (i : ℕ) (x : A) (xs : List A) → slice_get xs i ≡ Some x → change f i xs ≡ (take i xs ++ f x ∷ []) ++ drop (suc i) xs
+change_split f i x [] e = absurd cc
+change_split {A} f zero x (y ∷ xs) e = (let same : y ≡ x = cc in ap (λ (z : A). f z ∷ xs) same)
+change_split {A} f (suc i) x (y ∷ xs) e = ap (λ (ys : List A). y ∷ ys) (change_split f i x xs e)
 
 -- the change as what stands before, the changed element, and what stands after
 pub change_at : {A : Type 0} (f : A → A) (i : ℕ) (x : A) (xs : List A) → slice_get xs i ≡ Some x → change f i xs ≡ (take i xs ++ f x ∷ []) ++ drop (i + 1) xs
-change_at {A} f i x xs e = (let next : suc i ≡ i + 1 = omega arith in subst (λ (n : ℕ). change f i xs ≡ (take i xs ++ f x ∷ []) ++ drop n xs) next (change_behind f i x xs e))
+change_at {A} f i x xs e = (let next : suc i ≡ i + 1 = omega arith in subst (λ (n : ℕ). change f i xs ≡ (take i xs ++ f x ∷ []) ++ drop n xs) next (change_split f i x xs e))
 
 -- ---- lists of one element, and of two
 

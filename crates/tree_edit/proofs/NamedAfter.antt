@@ -9,15 +9,16 @@ use Rattle.pascal_tree.specs.Paths.{OfProgram, OfStmt, tree_at}
 use Rattle.tree_edit.specs.Edited.{with_stmt}
 use Rattle.tree_edit.proofs.Distinct.{renewed}
 use Rattle.tree_edit.proofs.Among.{Splits}
-use Rattle.tree_edit.proofs.Splits.{names_of_stmt, names_split}
+use Rattle.tree_edit.proofs.NameSplits.{names_split}
+use Rattle.program_tree.proofs.RowNames.{stmt_names-is}
 
 named_by : (path : List ℕ) (old new : Stmt) (t : Tree) (last : ℕ) → (out-Stmt new).name.0 ≡ (out-Stmt old).name.0 → Counts t.next (names_within new) last → last ≤ 4294967295 → IsNamed t
     → Splits stmt_names (program_names t) (λ x. program_names (with_stmt path (x, last) t)) old → IsNamed (with_stmt path (new, last) t)
 named_by path old new t last name counts small named (before, after, is, will) =
     (let n = (out-Stmt old).name.0 in
     let here = before ++ (n ∷ []) in
-    let was : program_names t ≡ here ++ (names_within old ++ after) = is ∙ (rw (names_of_stmt old) (sym (append_assoc before (n ∷ []) (names_within old ++ after)))) in
-    let now : program_names (with_stmt path (new, last) t) ≡ here ++ (names_within new ++ after) = will new ∙ (rw (names_of_stmt new, name) (sym (append_assoc before (n ∷ []) (names_within new ++ after)))) in
+    let was : program_names t ≡ here ++ (names_within old ++ after) = is ∙ (rw (stmt_names-is old) (sym (append_assoc before (n ∷ []) (names_within old ++ after)))) in
+    let now : program_names (with_stmt path (new, last) t) ≡ here ++ (names_within new ++ after) = will new ∙ (rw (stmt_names-is new, name) (sym (append_assoc before (n ∷ []) (names_within new ++ after)))) in
     let one : 1 ≤ t.next = omega (arith, named.within.0.1) in
     let both = renewed t.next last here (names_within old) (names_within new) after one (subst (IsDistinct eqb) was named.differ) (subst (AllByRecursion (IsNameBelow t.next)) was named.within) counts in
     record {
@@ -28,4 +29,4 @@ named_by path old new t last name counts small named (before, after, is, will) =
 
 pub named_after : (path : List ℕ) (old new : Stmt) (t : Tree) (last : ℕ) → tree_at path t ≡ Some (OfStmt old) → (out-Stmt new).name.0 ≡ (out-Stmt old).name.0 → Counts t.next (names_within new) last
     → last ≤ 4294967295 → IsNamed t → IsNamed (with_stmt path (new, last) t)
-named_after path old new t last at name counts small named = named_by path old new t last name counts small named (names_split path old (OfProgram t) at)
+named_after path old new t last at name counts small named = named_by path old new t last name counts small named (names_split path old last t at)

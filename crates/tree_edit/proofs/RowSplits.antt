@@ -13,7 +13,7 @@ use Rattle.pascal_tree.specs.Tokens.{Toks}
 use Rattle.pascal_tree.specs.Paths.{ItemValue, OfProgram, OfDecl, OfRoutine, OfStmt, item_children, item_name, item_at}
 use Rattle.pascal_tree.specs.Rows.{Row, hole, label_part, own_kind, arm_text, own_text, rows_from, stmt_rows}
 use Rattle.program_tree.proofs.Opened.{item_rows, own_row, item_opened}
-use Rattle.tree_edit.specs.Place.{change, change_if, in_arm, in_kind, put_at}
+use Rattle.tree_edit.specs.Place.{change, change_if, change_in_arm, change_in_kind, put_at}
 use Rattle.tree_edit.proofs.Among.{Splits, with_front, with_back, same_splits}
 use Rattle.tree_edit.proofs.Items.{put_item, item_put, name_put, routine_opened}
 
@@ -24,12 +24,12 @@ holes_kept f i [] = refl
 holes_kept f zero (x ∷ xs) = refl
 holes_kept f (suc i) (x ∷ xs) = ap (λ (texts : List Toks). hole ∷ texts) (holes_kept f i xs)
 
-arms_kept : (f : Stmt → Stmt) (i : ℕ) (arms : List Arm) → map arm_text (change (in_arm f) i arms) ≡ map arm_text arms
+arms_kept : (f : Stmt → Stmt) (i : ℕ) (arms : List Arm) → map arm_text (change (change_in_arm f) i arms) ≡ map arm_text arms
 arms_kept f i [] = refl
 arms_kept f zero (a ∷ arms) = refl
 arms_kept f (suc i) (a ∷ arms) = ap (λ (texts : List Toks). arm_text a ∷ texts) (arms_kept f i arms)
 
-kind_kept : (f : Stmt → Stmt) (i : ℕ) (x : StmtKind-F StmtKind Arm Stmt) → own_kind arm_text (out-StmtKind (in_kind f i x)) ≡ own_kind arm_text x
+kind_kept : (f : Stmt → Stmt) (i : ℕ) (x : StmtKind-F StmtKind Arm Stmt) → own_kind arm_text (out-StmtKind (change_in_kind f i x)) ≡ own_kind arm_text x
 kind_kept f i StmtKind-F.Empty = rw s.outs-Empty refl
 kind_kept f i (StmtKind-F.Assign a e) = rw (s.outs-Assign a e) refl
 kind_kept f i (StmtKind-F.Call x args) = rw (s.outs-Call x args) refl
@@ -37,7 +37,7 @@ kind_kept f i (StmtKind-F.Goto label) = rw (s.outs-Goto label) refl
 kind_kept f i (StmtKind-F.Compound stmts) = rw (s.outs-Compound (change f i stmts), holes_kept f i stmts) refl
 kind_kept f i (StmtKind-F.If e a None) = rw (s.outs-If e (change_if f i 0 a) None) refl
 kind_kept f i (StmtKind-F.If e a (Some b)) = rw (s.outs-If e (change_if f i 0 a) (Some (change_if f i 1 b))) refl
-kind_kept f i (StmtKind-F.Case e arms) = rw (s.outs-Case e (change (in_arm f) i arms), arms_kept f i arms) refl
+kind_kept f i (StmtKind-F.Case e arms) = rw (s.outs-Case e (change (change_in_arm f) i arms), arms_kept f i arms) refl
 kind_kept f i (StmtKind-F.While e a) = rw (s.outs-While e (change_if f i 0 a)) refl
 kind_kept f i (StmtKind-F.Repeat stmts e) = rw (s.outs-Repeat (change f i stmts) e) refl
 kind_kept f i (StmtKind-F.For x first down last a) = rw (s.outs-For x first down last (change_if f i 0 a)) refl

@@ -21,115 +21,153 @@ abbrev pub most : List ℕ → ℕ
 most [] = 0
 most (n ∷ ns) = max n (most ns)
 
-abbrev pub if_any : Option ℕ → ℕ
-if_any None = 0
-if_any (Some n) = n
+-- 0 where there is none
+abbrev pub depth_if_any : Option ℕ → ℕ
+depth_if_any None = 0
+depth_if_any (Some n) = n
 
--- ---- expressions, of one layer, where each part stands for the levels that it takes
+-- ---- expressions, one layer; in the place of each part stands how many levels it takes
 
-abbrev pub of_access_part : AccessPart-F ℕ ℕ ℕ ℕ ℕ ℕ ℕ ℕ ℕ ℕ ℕ → ℕ
-of_access_part (AccessPart-F.Index exprs) = most exprs
-of_access_part (AccessPart-F.Field x) = 0
-of_access_part AccessPart-F.Dereference = 0
+-- an index is as deep as its deepest expression; a field and a dereference take no level
+abbrev pub depth_of_access_part : AccessPart-F ℕ ℕ ℕ ℕ ℕ ℕ ℕ ℕ ℕ ℕ ℕ → ℕ
+depth_of_access_part (AccessPart-F.Index exprs) = most exprs
+depth_of_access_part (AccessPart-F.Field x) = 0
+depth_of_access_part AccessPart-F.Dereference = 0
 
-abbrev pub of_factor : Factor-F ℕ ℕ ℕ ℕ ℕ ℕ ℕ ℕ ℕ ℕ ℕ → ℕ
-of_factor (Factor-F.Number n) = 1
-of_factor (Factor-F.Str text) = 1
-of_factor Factor-F.Nil = 1
-of_factor (Factor-F.Access access) = access
-of_factor (Factor-F.Call x args) = most args + 1
-of_factor (Factor-F.Members members) = most members + 1
-of_factor (Factor-F.Paren expr) = expr + 1
-of_factor (Factor-F.Not operand) = operand + 1
+-- a constant takes a level of its own; arguments, members, brackets and the operand of `not` come one below theirs
+abbrev pub depth_of_factor : Factor-F ℕ ℕ ℕ ℕ ℕ ℕ ℕ ℕ ℕ ℕ ℕ → ℕ
+depth_of_factor (Factor-F.Number n) = 1
+depth_of_factor (Factor-F.Str text) = 1
+depth_of_factor Factor-F.Nil = 1
+depth_of_factor (Factor-F.Access access) = access
+depth_of_factor (Factor-F.Call x args) = most args + 1
+depth_of_factor (Factor-F.Members members) = most members + 1
+depth_of_factor (Factor-F.Paren expr) = expr + 1
+depth_of_factor (Factor-F.Not operand) = operand + 1
 
-abbrev pub of_access : Access-F ℕ ℕ ℕ ℕ ℕ ℕ ℕ ℕ ℕ ℕ ℕ → ℕ
-of_access a = most a.parts + 1
+-- an index comes one level below the variable
+abbrev pub depth_of_access : Access-F ℕ ℕ ℕ ℕ ℕ ℕ ℕ ℕ ℕ ℕ ℕ → ℕ
+depth_of_access a = most a.parts + 1
 
-abbrev pub of_add_part : AddPart-F ℕ ℕ ℕ ℕ ℕ ℕ ℕ ℕ ℕ ℕ ℕ → ℕ
-of_add_part p = p.right
+-- a further term stands on the level of the first
+abbrev pub depth_of_add_part : AddPart-F ℕ ℕ ℕ ℕ ℕ ℕ ℕ ℕ ℕ ℕ ℕ → ℕ
+depth_of_add_part p = p.right
 
-abbrev pub of_arg : Arg-F ℕ ℕ ℕ ℕ ℕ ℕ ℕ ℕ ℕ ℕ ℕ → ℕ
-of_arg a = max a.value (if_any a.width)
+-- the value and the width are on one level
+abbrev pub depth_of_arg : Arg-F ℕ ℕ ℕ ℕ ℕ ℕ ℕ ℕ ℕ ℕ ℕ → ℕ
+depth_of_arg a = max a.value (depth_if_any a.width)
 
-abbrev pub of_expr : Expr-F ℕ ℕ ℕ ℕ ℕ ℕ ℕ ℕ ℕ ℕ ℕ → ℕ
-of_expr e = max e.first (if_any e.rest)
+-- both sides of a relation are on one level
+abbrev pub depth_of_expr : Expr-F ℕ ℕ ℕ ℕ ℕ ℕ ℕ ℕ ℕ ℕ ℕ → ℕ
+depth_of_expr e = max e.first (depth_if_any e.rest)
 
-abbrev pub of_mul_part : MulPart-F ℕ ℕ ℕ ℕ ℕ ℕ ℕ ℕ ℕ ℕ ℕ → ℕ
-of_mul_part p = p.right
+-- a further factor stands on the level of the first
+abbrev pub depth_of_mul_part : MulPart-F ℕ ℕ ℕ ℕ ℕ ℕ ℕ ℕ ℕ ℕ ℕ → ℕ
+depth_of_mul_part p = p.right
 
-abbrev pub of_rel_part : RelPart-F ℕ ℕ ℕ ℕ ℕ ℕ ℕ ℕ ℕ ℕ ℕ → ℕ
-of_rel_part p = p.right
+-- the right side of a relation
+abbrev pub depth_of_rel_part : RelPart-F ℕ ℕ ℕ ℕ ℕ ℕ ℕ ℕ ℕ ℕ ℕ → ℕ
+depth_of_rel_part p = p.right
 
-abbrev pub of_member : SetMember-F ℕ ℕ ℕ ℕ ℕ ℕ ℕ ℕ ℕ ℕ ℕ → ℕ
-of_member m = max m.first (if_any m.last)
+-- both ends of a range are on one level
+abbrev pub depth_of_member : SetMember-F ℕ ℕ ℕ ℕ ℕ ℕ ℕ ℕ ℕ ℕ ℕ → ℕ
+depth_of_member m = max m.first (depth_if_any m.last)
 
-abbrev pub of_sum : SumExpr-F ℕ ℕ ℕ ℕ ℕ ℕ ℕ ℕ ℕ ℕ ℕ → ℕ
-of_sum s = max s.first (most s.rest)
+-- as deep as the deepest term
+abbrev pub depth_of_sum : SumExpr-F ℕ ℕ ℕ ℕ ℕ ℕ ℕ ℕ ℕ ℕ ℕ → ℕ
+depth_of_sum s = max s.first (most s.rest)
 
-abbrev pub of_term : Term-F ℕ ℕ ℕ ℕ ℕ ℕ ℕ ℕ ℕ ℕ ℕ → ℕ
-of_term t = max t.first (most t.rest)
+-- as deep as the deepest factor
+abbrev pub depth_of_term : Term-F ℕ ℕ ℕ ℕ ℕ ℕ ℕ ℕ ℕ ℕ ℕ → ℕ
+depth_of_term t = max t.first (most t.rest)
 
--- ---- whole expressions
+-- ---- whole expressions: how many levels each takes
 
 unfoldable pub access_part_depth : AccessPart → ℕ
-access_part_depth = fold-AccessPart ℕ ℕ ℕ ℕ ℕ ℕ ℕ ℕ ℕ ℕ ℕ of_access_part of_factor of_access of_add_part of_arg of_expr of_mul_part of_rel_part of_member of_sum of_term
+access_part_depth =
+    fold-AccessPart ℕ ℕ ℕ ℕ ℕ ℕ ℕ ℕ ℕ ℕ ℕ depth_of_access_part depth_of_factor depth_of_access depth_of_add_part depth_of_arg
+    depth_of_expr depth_of_mul_part depth_of_rel_part depth_of_member depth_of_sum depth_of_term
 
 unfoldable pub factor_depth : Factor → ℕ
-factor_depth = fold-Factor ℕ ℕ ℕ ℕ ℕ ℕ ℕ ℕ ℕ ℕ ℕ of_access_part of_factor of_access of_add_part of_arg of_expr of_mul_part of_rel_part of_member of_sum of_term
+factor_depth =
+    fold-Factor ℕ ℕ ℕ ℕ ℕ ℕ ℕ ℕ ℕ ℕ ℕ depth_of_access_part depth_of_factor depth_of_access depth_of_add_part depth_of_arg
+    depth_of_expr depth_of_mul_part depth_of_rel_part depth_of_member depth_of_sum depth_of_term
 
 unfoldable pub access_depth : Access → ℕ
-access_depth = fold-Access ℕ ℕ ℕ ℕ ℕ ℕ ℕ ℕ ℕ ℕ ℕ of_access_part of_factor of_access of_add_part of_arg of_expr of_mul_part of_rel_part of_member of_sum of_term
+access_depth =
+    fold-Access ℕ ℕ ℕ ℕ ℕ ℕ ℕ ℕ ℕ ℕ ℕ depth_of_access_part depth_of_factor depth_of_access depth_of_add_part depth_of_arg
+    depth_of_expr depth_of_mul_part depth_of_rel_part depth_of_member depth_of_sum depth_of_term
 
 unfoldable pub add_part_depth : AddPart → ℕ
-add_part_depth = fold-AddPart ℕ ℕ ℕ ℕ ℕ ℕ ℕ ℕ ℕ ℕ ℕ of_access_part of_factor of_access of_add_part of_arg of_expr of_mul_part of_rel_part of_member of_sum of_term
+add_part_depth =
+    fold-AddPart ℕ ℕ ℕ ℕ ℕ ℕ ℕ ℕ ℕ ℕ ℕ depth_of_access_part depth_of_factor depth_of_access depth_of_add_part depth_of_arg
+    depth_of_expr depth_of_mul_part depth_of_rel_part depth_of_member depth_of_sum depth_of_term
 
 unfoldable pub arg_depth : Arg → ℕ
-arg_depth = fold-Arg ℕ ℕ ℕ ℕ ℕ ℕ ℕ ℕ ℕ ℕ ℕ of_access_part of_factor of_access of_add_part of_arg of_expr of_mul_part of_rel_part of_member of_sum of_term
+arg_depth =
+    fold-Arg ℕ ℕ ℕ ℕ ℕ ℕ ℕ ℕ ℕ ℕ ℕ depth_of_access_part depth_of_factor depth_of_access depth_of_add_part depth_of_arg
+    depth_of_expr depth_of_mul_part depth_of_rel_part depth_of_member depth_of_sum depth_of_term
 
 unfoldable pub expr_depth : Expr → ℕ
-expr_depth = fold-Expr ℕ ℕ ℕ ℕ ℕ ℕ ℕ ℕ ℕ ℕ ℕ of_access_part of_factor of_access of_add_part of_arg of_expr of_mul_part of_rel_part of_member of_sum of_term
+expr_depth =
+    fold-Expr ℕ ℕ ℕ ℕ ℕ ℕ ℕ ℕ ℕ ℕ ℕ depth_of_access_part depth_of_factor depth_of_access depth_of_add_part depth_of_arg
+    depth_of_expr depth_of_mul_part depth_of_rel_part depth_of_member depth_of_sum depth_of_term
 
 unfoldable pub mul_part_depth : MulPart → ℕ
-mul_part_depth = fold-MulPart ℕ ℕ ℕ ℕ ℕ ℕ ℕ ℕ ℕ ℕ ℕ of_access_part of_factor of_access of_add_part of_arg of_expr of_mul_part of_rel_part of_member of_sum of_term
+mul_part_depth =
+    fold-MulPart ℕ ℕ ℕ ℕ ℕ ℕ ℕ ℕ ℕ ℕ ℕ depth_of_access_part depth_of_factor depth_of_access depth_of_add_part depth_of_arg
+    depth_of_expr depth_of_mul_part depth_of_rel_part depth_of_member depth_of_sum depth_of_term
 
 unfoldable pub rel_part_depth : RelPart → ℕ
-rel_part_depth = fold-RelPart ℕ ℕ ℕ ℕ ℕ ℕ ℕ ℕ ℕ ℕ ℕ of_access_part of_factor of_access of_add_part of_arg of_expr of_mul_part of_rel_part of_member of_sum of_term
+rel_part_depth =
+    fold-RelPart ℕ ℕ ℕ ℕ ℕ ℕ ℕ ℕ ℕ ℕ ℕ depth_of_access_part depth_of_factor depth_of_access depth_of_add_part depth_of_arg
+    depth_of_expr depth_of_mul_part depth_of_rel_part depth_of_member depth_of_sum depth_of_term
 
 unfoldable pub member_depth : SetMember → ℕ
-member_depth = fold-SetMember ℕ ℕ ℕ ℕ ℕ ℕ ℕ ℕ ℕ ℕ ℕ of_access_part of_factor of_access of_add_part of_arg of_expr of_mul_part of_rel_part of_member of_sum of_term
+member_depth =
+    fold-SetMember ℕ ℕ ℕ ℕ ℕ ℕ ℕ ℕ ℕ ℕ ℕ depth_of_access_part depth_of_factor depth_of_access depth_of_add_part depth_of_arg
+    depth_of_expr depth_of_mul_part depth_of_rel_part depth_of_member depth_of_sum depth_of_term
 
 unfoldable pub sum_depth : SumExpr → ℕ
-sum_depth = fold-SumExpr ℕ ℕ ℕ ℕ ℕ ℕ ℕ ℕ ℕ ℕ ℕ of_access_part of_factor of_access of_add_part of_arg of_expr of_mul_part of_rel_part of_member of_sum of_term
+sum_depth =
+    fold-SumExpr ℕ ℕ ℕ ℕ ℕ ℕ ℕ ℕ ℕ ℕ ℕ depth_of_access_part depth_of_factor depth_of_access depth_of_add_part depth_of_arg
+    depth_of_expr depth_of_mul_part depth_of_rel_part depth_of_member depth_of_sum depth_of_term
 
 unfoldable pub term_depth : Term → ℕ
-term_depth = fold-Term ℕ ℕ ℕ ℕ ℕ ℕ ℕ ℕ ℕ ℕ ℕ of_access_part of_factor of_access of_add_part of_arg of_expr of_mul_part of_rel_part of_member of_sum of_term
+term_depth =
+    fold-Term ℕ ℕ ℕ ℕ ℕ ℕ ℕ ℕ ℕ ℕ ℕ depth_of_access_part depth_of_factor depth_of_access depth_of_add_part depth_of_arg
+    depth_of_expr depth_of_mul_part depth_of_rel_part depth_of_member depth_of_sum depth_of_term
 
--- ---- statements
+-- ---- statements; in the place of each part stands how many levels it takes
 
-abbrev pub of_kind : StmtKind-F ℕ ℕ ℕ → ℕ
-of_kind StmtKind-F.Empty = 1
-of_kind (StmtKind-F.Assign access value) = max (access_depth access) (expr_depth value)
-of_kind (StmtKind-F.Call x args) = most (map arg_depth args) + 1
-of_kind (StmtKind-F.Goto label) = 1
-of_kind (StmtKind-F.Compound stmts) = most stmts + 1
-of_kind (StmtKind-F.If test first second) = max (expr_depth test) (max first (if_any second) + 1)
-of_kind (StmtKind-F.Case selector arms) = max (expr_depth selector) (most arms + 1)
-of_kind (StmtKind-F.While test body) = max (expr_depth test) (body + 1)
-of_kind (StmtKind-F.Repeat stmts test) = max (expr_depth test) (most stmts + 1)
-of_kind (StmtKind-F.For x first down last body) = max (max (expr_depth first) (expr_depth last)) (body + 1)
-of_kind (StmtKind-F.With records body) = max (most (map access_depth records)) (body + 1)
+-- expressions are on the level of their statement, inner statements and arguments one below it
+abbrev pub depth_of_kind : StmtKind-F ℕ ℕ ℕ → ℕ
+depth_of_kind StmtKind-F.Empty = 1
+depth_of_kind (StmtKind-F.Assign access value) = max (access_depth access) (expr_depth value)
+depth_of_kind (StmtKind-F.Call x args) = most (map arg_depth args) + 1
+depth_of_kind (StmtKind-F.Goto label) = 1
+depth_of_kind (StmtKind-F.Compound stmts) = most stmts + 1
+depth_of_kind (StmtKind-F.If test first second) = max (expr_depth test) (max first (depth_if_any second) + 1)
+depth_of_kind (StmtKind-F.Case selector arms) = max (expr_depth selector) (most arms + 1)
+depth_of_kind (StmtKind-F.While test body) = max (expr_depth test) (body + 1)
+depth_of_kind (StmtKind-F.Repeat stmts test) = max (expr_depth test) (most stmts + 1)
+depth_of_kind (StmtKind-F.For x first down last body) = max (max (expr_depth first) (expr_depth last)) (body + 1)
+depth_of_kind (StmtKind-F.With records body) = max (most (map access_depth records)) (body + 1)
 
-abbrev pub of_arm : Arm-F ℕ ℕ ℕ → ℕ
-of_arm a = a.body
+-- an arm is as deep as its statement
+abbrev pub depth_of_arm : Arm-F ℕ ℕ ℕ → ℕ
+depth_of_arm a = a.body
 
-abbrev pub of_stmt : Stmt-F ℕ ℕ ℕ → ℕ
-of_stmt s = s.kind
+-- a name and a label take no level
+abbrev pub depth_of_stmt : Stmt-F ℕ ℕ ℕ → ℕ
+depth_of_stmt s = s.kind
 
+-- how many levels a whole kind, arm and statement take
 unfoldable pub kind_depth : StmtKind → ℕ
-kind_depth = fold-StmtKind ℕ ℕ ℕ of_kind of_arm of_stmt
+kind_depth = fold-StmtKind ℕ ℕ ℕ depth_of_kind depth_of_arm depth_of_stmt
 
 unfoldable pub arm_depth : Arm → ℕ
-arm_depth = fold-Arm ℕ ℕ ℕ of_kind of_arm of_stmt
+arm_depth = fold-Arm ℕ ℕ ℕ depth_of_kind depth_of_arm depth_of_stmt
 
 unfoldable pub stmt_depth : Stmt → ℕ
-stmt_depth = fold-Stmt ℕ ℕ ℕ of_kind of_arm of_stmt
+stmt_depth = fold-Stmt ℕ ℕ ℕ depth_of_kind depth_of_arm depth_of_stmt

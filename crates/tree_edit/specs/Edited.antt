@@ -1,14 +1,15 @@
 -- Edits of a program, with their faults in order.
-use Rattle.std.specs.Prelude.{◌≡◌, ℕ, ◌+◌, ◌-◌, nat_lt, Bool, true, false, not, ◌&&◌, ◌||◌, if◌then◌else◌, List, ◌++◌, length, Option, Some, None, option_and_then, Result, Ok, Err}
+use Rattle.std.specs.Prelude.{◌≡◌, ℕ, ◌+◌, ◌-◌, nat_lt, Bool, true, false, not, ◌&&◌, ◌||◌, if◌then◌else◌, List, ◌∷◌, ◌++◌, length, map, Option, Some, None, option_and_then, Result, Ok, Err}
 use Rattle.pascal_tree.specs.declared.stmt.Stmt.{Stmt, out-Stmt}
 use Rattle.pascal_tree.specs.declared.stmt.StmtKind.{StmtKind, StmtKind-F, out-StmtKind}
 use Rattle.pascal_tree.specs.declared.stmt.Arm.{Arm}
 use Rattle.pascal_tree.specs.declared.decl.Block.{Block}
 use Rattle.pascal_tree.specs.declared.program.Tree.{Tree}
-use Rattle.pascal_tree.specs.Names.{names_within, stmt_renaming}
+use Rattle.pascal_tree.specs.Names.{Counts, names_within, stmt_renaming}
 use Rattle.pascal_tree.specs.Paths.{ItemValue, OfStmt, tree_at}
 use Rattle.pascal_tree.specs.Rows.{Row, stmt_rows, program_rows}
-use Rattle.program_tree.specs.Lookups.{name_of, path_of}
+use Rattle.program_tree.specs.Lookups.{name_of}
+use Rattle.program_tree.specs.Search.{path_of}
 use Rattle.tree_edit.specs.declared.fault.EditFault.{EditFault}
 use Rattle.tree_edit.specs.declared.fault.EditFault.TheVariants.{NoSuchName, WrongKind, TooDeep, NamesSpent, NoMemory}
 use Rattle.tree_edit.specs.Depth.{stmt_depth}
@@ -16,10 +17,12 @@ use Rattle.tree_edit.specs.Place.{put_in_block, leads_to_body}
 
 -- ---- faults
 
+-- a compound statement
 abbrev pub is_compound : StmtKind-F StmtKind Arm Stmt → Bool
 is_compound (StmtKind-F.Compound stmts) = true
 is_compound _ = false
 
+-- there is no label
 abbrev pub is_without : Option ℕ → Bool
 is_without None = true
 is_without (Some n) = false
@@ -28,24 +31,26 @@ is_without (Some n) = false
 abbrev pub can_be_body : Stmt → Bool
 can_be_body s = is_compound (out-StmtKind (out-Stmt s).kind) && is_without (out-Stmt s).label
 
+-- the body of a block must be such a statement, and other statements may be any
 abbrev pub can_stand : List ℕ → Stmt → Block → Bool
 can_stand path s b = not (leads_to_body path b) || can_be_body s
 
--- The program is level 1, and each item on a path stands one level below the one before. So a statement at the path stands on
--- level 1 + length path, and the last level that it takes is this.
+-- The program is level 1, and each item on a path is one level below the one before. So a statement at the path is on level
+-- 1 + length path, and the last level that it takes is this.
 abbrev pub last_level : List ℕ → Stmt → ℕ
 last_level path s = length path + stmt_depth s
 
--- so many new names are needed, and 1,000,000 is the last there is
+-- so many new names are needed, from the next one on, and 1,000,000 is the last there is
 abbrev pub are_spent : ℕ → ℕ → Bool
 are_spent next count = nat_lt 0 count && nat_lt 1000000 (next + count - 1)
 
 -- ---- a statement in the place of another
 
+-- a program with this statement in the place at the path, and with this next name
 abbrev pub with_stmt : List ℕ → Stmt × ℕ → Tree → Tree
 with_stmt path r t = record { ident = t.ident; files = t.files; block = put_in_block path r.0 t.block; next = r.1 }
 
--- in the place at the path, where the old one stands: it keeps the name, and what is inside it is new
+-- the program with s in the place of the old statement at the path: the name stays, and what is inside has new names
 abbrev pub replaced_stmt : Stmt → List ℕ → ℕ → Stmt → Tree → Result Tree EditFault
 replaced_stmt old path n s t =
     if can_stand path s t.block then
@@ -59,10 +64,12 @@ abbrev pub stmt_of : ItemValue → Option Stmt
 stmt_of (OfStmt s) = Some s
 stmt_of _ = None
 
+-- the same, where a statement is at the path
 abbrev pub replaced_at : Option Stmt → List ℕ → ℕ → Stmt → Tree → Result Tree EditFault
 replaced_at None path n s t = Err (WrongKind (name_of n))
 replaced_at (Some old) path n s t = replaced_stmt old path n s t
 
+-- the same, at the path that the search found
 abbrev pub replaced_found : Option (List ℕ) → ℕ → Stmt → Tree → Result Tree EditFault
 replaced_found None n s t = Err (NoSuchName (name_of n))
 replaced_found (Some path) n s t = replaced_at (option_and_then stmt_of (tree_at path t)) path n s t
@@ -85,14 +92,25 @@ Edits (Ok a) outcome new = outcome ≡ Ok new
 Edits (Err NoMemory) outcome new = Unit {0}
 Edits (Err fault) outcome new = outcome ≡ Err fault
 
--- the rows of one statement have others in their place, and all other rows are as they were
-pub record IsEditedRows (t u : Tree) : Type 0 where
+-- ---- an edit in rows
+
+-- a row without its name
+abbrev pub unnamed_row : Row → Row
+unnamed_row r = record { path = r.path; name = 0; own = r.own }
+
+-- The rows of the statement with the name n have those of s in their place, at the same path: the first keeps the name, and
+-- the others take the next names in turn. All other rows are as they were.
+pub record IsEditedRows (n : ℕ) (s : Stmt) (t u : Tree) : Type 0 where
   pub path : List ℕ
   pub old : Stmt
-  pub new : Stmt
+  pub new : List Row
+  pub names : List ℕ
   pub before : List Row
   pub after : List Row
+  pub found : path_of n t ≡ Some path
   pub stood : tree_at path t ≡ Some (OfStmt old)
-  pub stands : tree_at path u ≡ Some (OfStmt new)
   pub old_rows : program_rows t ≡ before ++ (stmt_rows old path ++ after)
-  pub new_rows : program_rows u ≡ before ++ (stmt_rows new path ++ after)
+  pub new_rows : program_rows u ≡ before ++ (new ++ after)
+  pub unnamed : map unnamed_row new ≡ map unnamed_row (stmt_rows s path)
+  pub named : map (λ r. r.name) new ≡ n ∷ names
+  pub in_turn : Counts t.next names u.next

@@ -12,8 +12,8 @@ use pascal_tree::{
 use sqlite_items::{Boxed, Items, at as item_at};
 use std::alloc::Global;
 
-// How far behind so many parts the position is.
-fn behind(at: usize, count: usize) -> Option<usize>
+// How far the position is past so many parts. None where it is one of them.
+fn past(at: usize, count: usize) -> Option<usize>
     ensures { MatchOption result (at < count) (λ left. at ≡ left + count) }
 {
     if at < count {
@@ -31,14 +31,14 @@ fn label_count(labels: &Option<Decl>) -> usize
     }
 }
 
-// How far behind the declarations the position is.
-pub fn behind_decls(block: &Block, at: usize) -> Option<usize>
+// How far the position is past the declarations. None where it is one of them.
+pub fn past_decls(block: &Block, at: usize) -> Option<usize>
     ensures { MatchOption result (at < spec.declared block.now) (λ left. at ≡ left + spec.declared block.now) }
 {
-    let at = behind(at, label_count(&block.labels))?;
-    let at = behind(at, block.consts.len())?;
-    let at = behind(at, block.types.len())?;
-    behind(at, block.vars.len())
+    let at = past(at, label_count(&block.labels))?;
+    let at = past(at, block.consts.len())?;
+    let at = past(at, block.types.len())?;
+    past(at, block.vars.len())
 }
 
 // The block with other routines and another body.
@@ -72,7 +72,9 @@ fn put_body(
     path: &[u32],
     new: &Stmt,
 ) -> Result<Block, NoMemory>
-    ensures { let f = spec.put_at path.now new.now in IfOk result (λ b. b ≡ spec.with_body block.now (spec.change_if f at (length (out-Block block.now).routines) (out-Block block.now).body)) }
+    ensures { let f = spec.put_at path.now new.now in
+        let old = out-Block block.now in
+        IfOk result (λ b. b ≡ spec.with_body block.now (spec.change_if f at (length old.routines) old.body)) }
 {
     let body = put_boxed(alloc, &block.body, at, block.routines.len(), path, new)?;
     let routines = copy_routines(alloc, block.routines.as_slice())?;
@@ -86,7 +88,7 @@ fn put_routine(
     path: &[u32],
     new: &Stmt,
 ) -> Result<Routine, NoMemory>
-    ensures { IfOk result (λ r. r ≡ spec.in_routine (spec.put_in_block path.now new.now) routine.now) }
+    ensures { IfOk result (λ r. r ≡ spec.change_in_routine (spec.put_in_block path.now new.now) routine.now) }
 {
     let name = routine.name;
     let heading = copy_heading(alloc, &routine.heading)?;
@@ -115,7 +117,8 @@ fn put_routines(
     path: &[u32],
     new: &Stmt,
 ) -> Result<Items<Routine>, NoMemory>
-    ensures { IfOk result (λ all. all ≡ spec.change (spec.in_routine (spec.put_in_block path.now new.now)) at routines.now) }
+    ensures { let f = spec.change_in_routine (spec.put_in_block path.now new.now) in
+        IfOk result (λ all. all ≡ spec.change f at routines.now) }
 {
     let Some(routine) = item_at(routines, at) else {
         let all = copy_routines(alloc, routines)?;
@@ -129,14 +132,16 @@ fn put_routines(
 }
 
 #[cycle(put_block)]
-fn put_behind(
+fn put_after_decls(
     alloc: Global,
     block: &Block,
     at: usize,
     path: &[u32],
     new: &Stmt,
 ) -> Result<Block, NoMemory>
-    ensures { IfOk result (λ b. b ≡ spec.behind_decls (spec.put_at path.now new.now) (spec.in_routine (spec.put_in_block path.now new.now)) at block.now) }
+    ensures { let f = spec.put_at path.now new.now in
+        let g = spec.change_in_routine (spec.put_in_block path.now new.now) in
+        IfOk result (λ b. b ≡ spec.after_decls f g at block.now) }
 {
     if at < block.routines.len() {
         let routines = put_routines(alloc, block.routines.as_slice(), at, path, new)?;
@@ -155,8 +160,8 @@ pub fn put_block(alloc: Global, block: &Block, path: &[u32], new: &Stmt) -> Resu
     let [at, path @ ..] = path else {
         return copy_block(alloc, block);
     };
-    match behind_decls(block, *at as usize) {
+    match past_decls(block, *at as usize) {
         None => copy_block(alloc, block),
-        Some(at) => put_behind(alloc, block, at, path, new),
+        Some(at) => put_after_decls(alloc, block, at, path, new),
     }
 }

@@ -5,7 +5,7 @@ ghost use Rattle.pascal_tree.specs.declared.decl.Block.{out-Block};
 ghost use Rattle.tree_edit.specs.Edited as spec;
 ghost use Rattle.tree_edit.specs.Place.{leads_to_body};
 
-use crate::blocks::behind_decls;
+use crate::blocks::past_decls;
 use pascal_tree::{Block, Stmt, StmtKind};
 use tree_names::new_names;
 
@@ -45,7 +45,7 @@ fn leads_to_body(block: &Block, path: &[u32]) -> bool
     let [at, path @ ..] = path else {
         return false;
     };
-    let Some(at) = behind_decls(block, *at as usize) else {
+    let Some(at) = past_decls(block, *at as usize) else {
         return false;
     };
     if at >= block.routines.len() {

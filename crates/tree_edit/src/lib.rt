@@ -14,6 +14,3 @@ mod stmt_levels;
 
 pub use fault::EditFault;
 pub use replacing::replace;
-
-#[cfg(test)]
-mod tests;

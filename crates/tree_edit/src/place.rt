@@ -34,7 +34,7 @@ fn put_list(
 
 #[cycle(put_stmt)]
 fn put_arm(alloc: Global, arm: &Arm, path: &[u32], new: &Stmt) -> Result<Arm, NoMemory>
-    ensures { IfOk result (λ r. r ≡ spec.in_arm (spec.put_at path.now new.now) arm.now) }
+    ensures { IfOk result (λ r. r ≡ spec.change_in_arm (spec.put_at path.now new.now) arm.now) }
 {
     let constants = copy_constants(alloc, arm.constants.as_slice())?;
     let body = put_stmt(alloc, &arm.body, path, new)?;
@@ -49,7 +49,7 @@ fn put_arms(
     path: &[u32],
     new: &Stmt,
 ) -> Result<Items<Arm>, NoMemory>
-    ensures { IfOk result (λ all. all ≡ spec.change (spec.in_arm (spec.put_at path.now new.now)) at arms.now) }
+    ensures { IfOk result (λ all. all ≡ spec.change (spec.change_in_arm (spec.put_at path.now new.now)) at arms.now) }
 {
     let Some(arm) = item_at(arms, at) else {
         let all = copy_arms(alloc, arms)?;
@@ -140,7 +140,7 @@ fn make_with(alloc: Global, records: &[Access], body: Boxed<Stmt>) -> Result<Stm
     Ok(StmtKind::With(records, body))
 }
 
-// The kind of a statement, with the new one in the place at the path behind part `at`.
+// The kind of a statement, with the new one in the place at the path from part `at`.
 #[cycle(put_stmt)]
 fn put_kind(
     alloc: Global,
@@ -149,7 +149,7 @@ fn put_kind(
     path: &[u32],
     new: &Stmt,
 ) -> Result<StmtKind, NoMemory>
-    ensures { IfOk result (λ r. r ≡ spec.in_kind (spec.put_at path.now new.now) at (out-StmtKind kind.now)) }
+    ensures { IfOk result (λ r. r ≡ spec.change_in_kind (spec.put_at path.now new.now) at (out-StmtKind kind.now)) }
 {
     match kind {
         StmtKind::Compound(stmts) => {

@@ -48,6 +48,7 @@ fn with_named(
     requires counted { Counts program.now.next (names_within named.now) next }
     ensures { IfOk result (λ p. p ≡ with_stmt path.now (named.now, next) program.now) }
 {
+    // That each item of the program has a name of its own is a clause of this call alone.
     let _tree = program.tree();
     with_stmt(alloc, program, path, named, next)
 }
@@ -61,7 +62,8 @@ fn with_renamed(
     stmt: &Stmt,
 ) -> Result<Program, NoMemory>
     requires { tree_at path.now program.now ≡ Some (OfStmt old.now) }
-    ensures { IfOk result (λ p. p ≡ with_stmt path.now (stmt_renaming (out-Stmt old.now).name.0 stmt.now program.now.next) program.now) }
+    ensures { let named = stmt_renaming (out-Stmt old.now).name.0 stmt.now program.now.next in
+        IfOk result (λ p. p ≡ with_stmt path.now named program.now) }
 {
     let (named, next) = name_stmt(alloc, old.name, stmt, program.next_name())?;
     with_named(alloc, program, path, old, &named, next)
@@ -128,8 +130,8 @@ pub fn replace(
     // The program is the edited one, or the fault is the first there is; only want of memory is free.
     ensures value { Edits result (replaced_program name.0 stmt.now program.old) program.new }
     ensures kept { OnErr result (program.new ≡ program.old) }
-    // The rows of one statement have others in their place, and all other rows are as they were.
-    ensures rows { OnOk result (IsEditedRows program.old program.new) }
+    // The rows of this statement have those of the new one in their place, and all other rows are as they were.
+    ensures rows { OnOk result (IsEditedRows name.0 stmt.now program.old program.new) }
 {
     let edited = replaced(alloc, program, name, stmt)?;
     *program = edited;

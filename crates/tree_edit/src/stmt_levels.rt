@@ -35,7 +35,8 @@ fn with_inner(expr: &Expr, inner: u32) -> Result<u32, NoMemory>
 }
 
 fn for_depth(first: &Expr, last: &Expr, inner: u32) -> Result<u32, NoMemory>
-    ensures { IfOk result (λ n. n ≡ max (max (spec.expr_depth first.now) (spec.expr_depth last.now)) (inner + 1)) }
+    ensures { let ends = max (spec.expr_depth first.now) (spec.expr_depth last.now) in
+        IfOk result (λ n. n ≡ max ends (inner + 1)) }
 {
     let first = expr_depth(first)?;
     let last = expr_depth(last)?;

@@ -1,6 +1,6 @@
 use Rattle.std.proofs.Common.{◌≡◌, ◌+◌, ◌++◌, drop, map}
 use Rattle.pascal_tree.specs.Rows.{routine_rows, rows_from}
-use Rattle.program_tree.specs.Lookups.{entry_of}
+use Rattle.program_tree.specs.Entries.{entry_of}
 use Rattle.program_tree.proofs.index.+push_block.Given as goal
 
 abbrev pub invariant-push_routines-loop-routine : goal.invariant-push_routines-loop-routine

@@ -1,6 +1,6 @@
 use Rattle.std.proofs.Common.{◌≡◌, ◌++◌, drop, map}
 use Rattle.pascal_tree.specs.Rows.{stmt_rows, arm_rows, rows_from}
-use Rattle.program_tree.specs.Lookups.{entry_of}
+use Rattle.program_tree.specs.Entries.{entry_of}
 use Rattle.program_tree.proofs.index.+push_stmt.Given as goal
 
 abbrev pub invariant-push_stmts-loop-stmt : goal.invariant-push_stmts-loop-stmt

@@ -1,6 +1,6 @@
 use Rattle.std.proofs.Common.{◌≡◌, ◌+◌, ◌++◌, drop, map}
 use Rattle.pascal_tree.specs.Rows.{decl_rows, rows_from}
-use Rattle.program_tree.specs.Lookups.{entry_of}
+use Rattle.program_tree.specs.Entries.{entry_of}
 use Rattle.program_tree.proofs.index.push_decls.Given as goal
 
 abbrev pub invariant-loop-decl : goal.invariant-loop-decl

@@ -11,5 +11,5 @@ decreases-put_routine l = 4 * length l.path.now + 1
 abbrev pub decreases-put_routines : goal.decreases-put_routines
 decreases-put_routines l = 4 * length l.path.now + 2
 
-abbrev pub decreases-put_behind : goal.decreases-put_behind
-decreases-put_behind l = 4 * length l.path.now + 3
+abbrev pub decreases-put_after_decls : goal.decreases-put_after_decls
+decreases-put_after_decls l = 4 * length l.path.now + 3

@@ -1,7 +1,7 @@
 use Rattle.std.proofs.Common.{◌≡◌, sym, arith}
 use Rattle.std.specs.Prelude.{slice_get, Some, None}
 use Rattle.std.proofs.lemmas.Grind.{common_steps}
-use Rattle.tree_edit.specs.Place.{put_at, in_arm}
+use Rattle.tree_edit.specs.Place.{put_at, change_in_arm}
 use Rattle.tree_edit.proofs.Lists.{change_past, change_at}
 use Rattle.tree_edit.proofs.place.+put_stmt.Goals as goal
 
@@ -20,11 +20,11 @@ put_list-returns t c =
 pub put_arms-returns-in_default : goal.put_arms-returns-in_default
 put_arms-returns-in_default t c =
     let past : slice_get c.args.arms.now c.args.at ≡ None = sym c.in_default.ensures in
-    let e = change_past (in_arm (put_at c.args.path.now c.args.new.now)) c.args.at c.args.arms.now past in
+    let e = change_past (change_in_arm (put_at c.args.path.now c.args.new.now)) c.args.at c.args.arms.now past in
     first_of (cc, grind (arith, common_steps))
 
 pub put_arms-returns : goal.put_arms-returns
 put_arms-returns t c =
     let found : slice_get c.args.arms.now c.args.at ≡ Some c.in-Some.arm.now = sym c.in-Some.ensures in
-    let e = change_at (in_arm (put_at c.args.path.now c.args.new.now)) c.args.at c.in-Some.arm.now c.args.arms.now found in
+    let e = change_at (change_in_arm (put_at c.args.path.now c.args.new.now)) c.args.at c.in-Some.arm.now c.args.arms.now found in
     first_of (cc, grind (arith, common_steps))
