@@ -2,26 +2,28 @@
 use Rattle.std.proofs.Common.{◌≡◌, ◌<◌, ◌≤◌, ℕ, ◌+◌, ◌-◌, List, [], ◌∷◌, ◌++◌, Err, length, length-append, map, refl, sym, ap, subst, ◌∙◌, append_assoc, append-nil, arith, inl, inr}
 use Rattle.std.proofs.lemmas.List.{length-map}
 use Rattle.std.specs.declared.option.Option.{Option}
-use Rattle.std.specs.Io.KnownBytes.{Keeps, Appends, IsAtEnd}
+use Rattle.std.specs.Io.KnownBytes.{Keeps, Appends, Consumes, IsAtEnd}
 use Rattle.dice_base.specs.Known.{Consumes-nil, Consumes-trans, Appends-nil, Appends-trans, Appends-kept}
 use Rattle.dice_base.specs.Lines.{NoFeed, NoFeeds, joined, some_line}
 use Rattle.script_lines.specs.Front.{strip}
-use Rattle.script_lines.specs.Took.{LastLine, PastRoom, Broken}
+use Rattle.script_lines.specs.Took.{LineRead, WholeLine, LastLine, PastRoom, Broken}
 use Rattle.pdp11_machine.specs.State.{MachineState}
 use Rattle.dice_session.specs.declared.session.Session.{Session}
 use Rattle.dice_session.specs.World.{World, Over, Command, ReadsAll, empty_world, reply_of, world_after, missing_end, transcript_of, last_world}
 use Rattle.dice_session.specs.Lives.{Lives, Stands}
 use Rattle.dice_program.specs.declared.serve.Fault.{Fault}
 use Rattle.dice_program.specs.declared.serve.Fault.TheVariants.{ReadFault, WriteFault, NoMemory}
+use Rattle.dice_program.specs.Ends.{Input, Output}
 use Rattle.dice_program.specs.Script.{MAX_BYTES, MAX_LINES, ended_lines, lines_in, acted_within, acted, IsTooLong}
-use Rattle.dice_program.specs.Turns.{AnsweredAll, AnswersSome, Stepped, CutLine, CutEnd, Unanswered, IsMore}
-use Rattle.dice_program.specs.Top.{IsScript, Begins, IsDone, IsTooMany, IsBroken, IsCut, IsShort, Serves}
-use Rattle.dice_program.proofs.Pieces.{ended-joined, ended-plain, lines-joined, lines-plain, acted-last, acted-past, acted-none, whole-more, last-more}
+use Rattle.dice_program.specs.Taking.{ScriptPart, TakesAll, Begins}
+use Rattle.dice_program.specs.Turns.{Answered, CutShort, AnsweredAll, AnswersSome, Unanswered, TakesOneLine, IsMore}
+use Rattle.dice_program.specs.Top.{IsDone, IsTooMany, IsBroken, IsCut, IsShort, Serves}
+use Rattle.dice_program.proofs.Pieces.{ended-joined, ended-plain, lines-joined, lines-plain, acted-last, acted-past, acted-none, whole-more, last-more, few-plain, few-whole, few-past}
 use Rattle.dice_program.proofs.Commands.{after-append, replies-append, reads-append, after-push, replies-push, reads-push, nothings, over-after, over-replies, over-reads, over-missing}
-use Rattle.dice_program.proofs.Serving.{Serving, longer-lines, so_far, known, known-end}
+use Rattle.dice_program.proofs.Serving.{Serving, longer-lines, so_far, known-end, part_of, takes-lines}
 
 -- the script begins with the lines that were read, and so with their commands
-pub begins : (lines : List (List ℕ)) (commands : List Command) (rest : List ℕ) (room more : ℕ) → NoFeeds lines → MAX_BYTES ≡ length (joined lines) + room
+begins : (lines : List (List ℕ)) (commands : List Command) (rest : List ℕ) (room more : ℕ) → NoFeeds lines → MAX_BYTES ≡ length (joined lines) + room
     → MAX_LINES - 1 ≡ length lines + more → ReadsAll empty_world (map strip lines) commands → Begins (joined lines ++ rest) commands
 begins lines commands rest room more plain space count read = record {
   lines = map strip lines;
@@ -30,55 +32,69 @@ begins lines commands rest room more plain space count read = record {
   read = inl read;
 }
 
-pub short : (session : Session) (machine : MachineState) (turns room : ℕ) (left now held held_mid held_now : Option (List ℕ)) → Serving session machine turns room left now held held_mid
-    → turns ≤ MAX_LINES - 1 → Keeps held_mid held_now → IsShort left held held_now
-short session machine turns room left now held held_mid held_now s few kept =
-    let k = known left now (joined s.lines) s.took in
+-- memory was refused, and no more than one line was taken behind those that are answered
+pub short : (session : Session) (machine : MachineState) (turns room : ℕ) (left mid now held held_mid held_now : Option (List ℕ)) (i i' o o' : ℕ)
+    → (s : Serving session machine turns room left mid held held_mid) → turns ≤ MAX_LINES - 1
+    → (x : List ℕ) → Consumes mid now x → length (lines_in x) ≤ 1 → Keeps held_mid held_now
+    → IsShort (record { left = left; left_then = now; faults = i; faults_then = i' }) (record { held = held; held_then = held_now; faults = o; faults_then = o' })
+short session machine turns room left mid now held held_mid held_now i i' o o' s few x took one kept =
+    let part = part_of left now (joined s.lines ++ x) (Consumes-trans left mid now _ _ s.took took) in
+    let more = MAX_LINES - 1 - turns in
     record {
-      script = joined s.lines ++ k.rest;
-      is = k.is;
+      part = part;
       commands = s.commands;
-      begins = begins s.lines s.commands k.rest room (MAX_LINES - 1 - turns) s.plain s.space (omega (arith, s.count, few)) s.read;
+      lines = map strip s.lines;
+      rest = acted_within more room (x ++ part.rest);
+      parts = ap acted (append_assoc (joined s.lines) x part.rest) ∙ so_far s.lines (x ++ part.rest) room more s.plain s.space (omega (arith, s.count, few));
+      read = s.read;
       wrote = Appends-kept held held_mid held_now _ s.wrote kept;
+      more = lines_in x;
+      taken = lines-joined s.lines x s.plain;
+      one = one;
     }
 
 -- nothing was read
-pub short-start : (left held : Option (List ℕ)) → IsShort left held held
-short-start left held =
-    let k = known left left [] (Consumes-nil left) in
+pub short-start : (left held : Option (List ℕ)) (i i' o o' : ℕ)
+    → IsShort (record { left = left; left_then = left; faults = i; faults_then = i' }) (record { held = held; held_then = held; faults = o; faults_then = o' })
+short-start left held i i' o o' =
+    let part = part_of left left [] (Consumes-nil left) in
     record {
-      script = [] ++ k.rest;
-      is = k.is;
+      part = part;
       commands = [];
-      begins = record { lines = []; rest = acted ([] ++ k.rest); parts = refl; read = inl tt };
+      lines = [];
+      rest = acted part.script;
+      parts = refl;
+      read = tt;
       wrote = Appends-nil held;
+      more = [];
+      taken = lines-plain [] tt;
+      one = omega arith;
     }
 
 -- `quit` was read
-pub done-quit : (session session_now : Session) (machine machine_now : MachineState) (turns room room_left : ℕ) (left mid now held held_mid held_now : Option (List ℕ)) (kept : List ℕ)
-    → (s : Serving session machine turns room left mid held held_mid)
-    → (t : Stepped kept (world_after empty_world s.commands) session_now machine_now room room_left mid now held_mid held_now)
-    → (reply_of (world_after empty_world s.commands) t.answered.command).0.mode ≡ Over → turns + 1 ≤ MAX_LINES - 1
+pub done-quit : (session session_now : Session) (machine machine_now : MachineState) (turns : ℕ) (left held held_mid held_now : Option (List ℕ)) (n : LineRead) (i i' o o' : ℕ)
+    → (s : Serving session machine turns n.room left n.left held held_mid) → (r : WholeLine n)
+    → (t : Answered (world_after empty_world s.commands) (strip r.line) session_now machine_now held_mid held_now)
+    → (reply_of (world_after empty_world s.commands) t.command).0.mode ≡ Over → turns + 1 ≤ MAX_LINES - 1
     → (stands : (w : World) → Lives w session_now machine_now → Stands w machine_now)
-    → IsDone left now held held_now machine_now
-done-quit session session_now machine machine_now turns room room_left left mid now held held_mid held_now kept s t over few stands =
-    let c = t.answered.command in
+    → IsDone (record { left = left; left_then = n.left_then; faults = i; faults_then = i' }) (record { held = held; held_then = held_now; faults = o; faults_then = o' }) machine_now
+done-quit session session_now machine machine_now turns left held held_mid held_now n i i' o o' s r t over few stands =
+    let c = t.command in
     let cs = s.commands ++ c ∷ [] in
-    let ls = s.lines ++ t.read.line ∷ [] in
-    let longer = longer-lines session machine turns room room_left left mid now held held_mid kept s t.read c t.answered.reads in
+    let ls = s.lines ++ r.line ∷ [] in
+    let longer = longer-lines session machine turns left held held_mid n s r c t.reads in
     let more = MAX_LINES - 1 - (turns + 1) in
-    let k = known left now (joined ls) longer.took in
-    let rest = acted_within more room_left k.rest in
+    let part = part_of left n.left_then (joined ls) longer.took in
+    let rest = acted_within more n.room_then part.rest in
     let all = cs ++ nothings rest in
     let then : (last_world cs).mode ≡ Over = ap (λ w. w.mode) (after-push empty_world s.commands c) ∙ over in
     let last : last_world all ≡ last_world cs = after-append empty_world cs (nothings rest) ∙ over-after (last_world cs) rest in
     let told : transcript_of all ≡ transcript_of cs =
     replies-append empty_world cs (nothings rest) ∙ ap (λ r. transcript_of cs ++ r) (over-replies (last_world cs) rest) ∙ append-nil (transcript_of cs) in
-    let acts : acted (joined ls ++ k.rest) ≡ map strip ls ++ rest =
-    so_far ls k.rest room_left more longer.plain longer.space (omega (arith, length-append s.lines (t.read.line ∷ []), s.count, few)) in
+    let acts : acted (joined ls ++ part.rest) ≡ map strip ls ++ rest =
+    so_far ls part.rest n.room_then more longer.plain longer.space (omega (arith, length-append s.lines (r.line ∷ []), s.count, few)) in
     record {
-      script = joined ls ++ k.rest;
-      is = k.is;
+      part = part;
       commands = all;
       read = record {
         front = all;
@@ -87,21 +103,26 @@ done-quit session session_now machine machine_now turns room room_left left mid 
         read = subst (λ xs. ReadsAll empty_world xs all) (sym acts) (reads-append empty_world (map strip ls) rest cs (nothings rest) longer.read (over-reads (last_world cs) rest then));
         ended = subst (λ xs. ReadsAll (last_world all) xs []) (sym (over-missing (last_world all).mode (ap (λ w. w.mode) last ∙ then))) tt;
       };
-      wrote = subst (Appends held held_now) (sym (told ∙ replies-push empty_world s.commands c)) (Appends-trans held held_mid held_now _ _ s.wrote t.answered.wrote);
-      stands = subst (λ w. Stands w machine_now) (sym (last ∙ after-push empty_world s.commands c)) (stands _ t.answered.lives);
-      ended = inl (ap (λ w. w.mode) last ∙ then);
+      wrote = subst (Appends held held_now) (sym (told ∙ replies-push empty_world s.commands c)) (Appends-trans held held_mid held_now _ _ s.wrote t.wrote);
+      stands = subst (λ w. Stands w machine_now) (sym (last ∙ after-push empty_world s.commands c)) (stands _ t.lives);
+      ended = inl (record {
+        before = s.commands;
+        quit = c;
+        only = takes-lines ls cs longer.plain longer.read;
+        going = s.going;
+        over = then;
+      });
     }
 
 -- the whole script was read and obeyed, but for a text that is still open
 pub record AtClose (session : Session) (machine : MachineState) (left left_now held held_now : Option (List ℕ)) : Type 0 where
-  pub script : List ℕ
-  pub is : IsScript left script
+  pub part : ScriptPart left left_now
+  pub whole : TakesAll part
   pub commands : List Command
-  pub read : ReadsAll empty_world (acted script) commands
+  pub read : ReadsAll empty_world (acted part.script) commands
+  pub all : lines_in part.taken ≡ acted part.script ++ []
   pub wrote : Appends held held_now (transcript_of commands)
   pub lives : Lives (last_world commands) session machine
-  pub fits : IsTooLong script → ⊥
-  pub ended : IsAtEnd left_now
 
 last-short : (lines : List (List ℕ)) (line : List ℕ) (room more : ℕ) → NoFeeds lines → MAX_BYTES ≡ length (joined lines) + room
     → MAX_LINES - 1 ≡ length lines + more → NoFeed line → length line ≤ room → length (some_line line) ≤ more
@@ -125,162 +146,198 @@ last-acted : (lines : List (List ℕ)) (line : List ℕ) (room more : ℕ) → N
 last-acted lines line room more plain space count end fits few =
     so_far lines line room more plain space count ∙ ap (λ xs. map strip lines ++ xs) (acted-last line more room end fits few)
 
-pub at-close : (session session_now : Session) (machine machine_now : MachineState) (turns room room_left : ℕ) (left mid now held held_mid held_now : Option (List ℕ)) (kept : List ℕ)
-    → (s : Serving session machine turns room left mid held held_mid) → (r : LastLine kept room room_left mid now) → turns + length (some_line r.line) ≤ MAX_LINES - 1
+-- the script, taken to its end
+abbrev pub whole_part : (left left_now : Option (List ℕ)) (script : List ℕ) → (took : Consumes left left_now script) → IsAtEnd left_now → ScriptPart left left_now
+whole_part left left_now script took ended = record {
+  script = script;
+  taken = script;
+  rest = [];
+  parts = sym (append-nil script);
+  is = known-end left left_now script took ended;
+  took = took;
+}
+
+pub at-close : (session session_now : Session) (machine machine_now : MachineState) (turns : ℕ) (left held held_mid held_now : Option (List ℕ)) (n : LineRead)
+    → (s : Serving session machine turns n.room left n.left held held_mid) → (r : LastLine n) → turns + length (some_line r.line) ≤ MAX_LINES - 1
     → AnsweredAll (world_after empty_world s.commands) (some_line r.line) session_now machine_now held_mid held_now
-    → AtClose session_now machine_now left now held held_now
-at-close session session_now machine machine_now turns room room_left left mid now held held_mid held_now kept s r few a =
+    → AtClose session_now machine_now left n.left_then held held_now
+at-close session session_now machine machine_now turns left held held_mid held_now n s r few a =
     let cs = s.commands ++ a.commands in
     let more = MAX_LINES - 1 - turns in
     let count : MAX_LINES - 1 ≡ length s.lines + more = omega (arith, s.count, few) in
-    let fits : length r.line ≤ room = omega (arith, r.space) in
+    let fits : length r.line ≤ n.room = omega (arith, r.space) in
     let less : length (some_line r.line) ≤ more = omega (arith, few) in
+    let acts : acted (joined s.lines ++ r.line) ≡ map strip s.lines ++ some_line r.line =
+    last-acted s.lines r.line n.room more s.plain s.space count r.plain fits less in
     record {
-      script = joined s.lines ++ r.line;
-      is = known-end left now (joined s.lines ++ r.line) (Consumes-trans left mid now _ _ s.took r.took) r.ended;
+      part = whole_part left n.left_then (joined s.lines ++ r.line) (Consumes-trans left n.left n.left_then _ _ s.took r.took) r.ended;
+      whole = record { all = refl; ended = r.ended; fits = last-short s.lines r.line n.room more s.plain s.space count r.plain fits less };
       commands = cs;
-      read = subst (λ xs. ReadsAll empty_world xs cs) (sym (last-acted s.lines r.line room more s.plain s.space count r.plain fits less)) (reads-append empty_world (map strip s.lines) (some_line r.line) s.commands a.commands s.read a.reads);
+      read = subst (λ xs. ReadsAll empty_world xs cs) (sym acts) (reads-append empty_world (map strip s.lines) (some_line r.line) s.commands a.commands s.read a.reads);
+      all = lines-joined s.lines r.line s.plain ∙ ap (λ xs. map strip s.lines ++ xs) (lines-plain r.line r.plain) ∙ sym acts ∙ sym (append-nil _);
       wrote = subst (Appends held held_now) (sym (replies-append empty_world s.commands a.commands)) (Appends-trans held held_mid held_now _ _ s.wrote a.wrote);
       lives = subst (λ w. Lives w session_now machine_now) (sym (after-append empty_world s.commands a.commands)) a.lives;
-      fits = last-short s.lines r.line room more s.plain s.space count r.plain fits less;
-      ended = r.ended;
     }
 
 -- the text that was open is ended
-pub closed-done : (session session_now : Session) (machine machine_now : MachineState) (left now held held_mid held_now : Option (List ℕ))
+pub closed-done : (session session_now : Session) (machine machine_now : MachineState) (left now held held_mid held_now : Option (List ℕ)) (i i' o o' : ℕ)
     → (e : AtClose session machine left now held held_mid) → AnsweredAll (last_world e.commands) (missing_end (last_world e.commands).mode) session_now machine_now held_mid held_now
-    → (stands : (w : World) → Lives w session_now machine_now → Stands w machine_now) → IsDone left now held held_now machine_now
-closed-done session session_now machine machine_now left now held held_mid held_now e a stands = record {
-  script = e.script;
-  is = e.is;
+    → (stands : (w : World) → Lives w session_now machine_now → Stands w machine_now)
+    → IsDone (record { left = left; left_then = now; faults = i; faults_then = i' }) (record { held = held; held_then = held_now; faults = o; faults_then = o' }) machine_now
+closed-done session session_now machine machine_now left now held held_mid held_now i i' o o' e a stands = record {
+  part = e.part;
   commands = e.commands ++ a.commands;
   read = record { front = e.commands; last = a.commands; all = refl; read = e.read; ended = a.reads };
   wrote = subst (Appends held held_now) (sym (replies-append empty_world e.commands a.commands)) (Appends-trans held held_mid held_now _ _ e.wrote a.wrote);
   stands = subst (λ w. Stands w machine_now) (sym (after-append empty_world e.commands a.commands)) (stands _ a.lives);
-  ended = inr (e.fits, e.ended);
+  ended = inr e.whole;
 }
 
-pub closed-fails : (fault : Fault) (session session_now : Session) (machine machine_now : MachineState) (left now held held_mid held_now : Option (List ℕ))
+pub closed-fails : (fault : Fault) (session session_now : Session) (machine machine_now : MachineState) (left now held held_mid held_now : Option (List ℕ)) (i i' o o' : ℕ)
     → (e : AtClose session machine left now held held_mid) → AnswersSome (Err fault) (last_world e.commands) (missing_end (last_world e.commands).mode) session_now machine_now held_mid held_now
-    → (stands : (w : World) → Lives w session_now machine_now → Stands w machine_now) → Serves (Err fault) left now held held_now machine_now
-closed-fails ReadFault session session_now machine machine_now left now held held_mid held_now e a stands = absurd a
-closed-fails WriteFault session session_now machine machine_now left now held held_mid held_now e a stands =
+    → (stands : (w : World) → Lives w session_now machine_now → Stands w machine_now)
+    → Serves (Err fault) (record { left = left; left_then = now; faults = i; faults_then = i' }) (record { held = held; held_then = held_now; faults = o; faults_then = o' }) machine_now
+closed-fails ReadFault session session_now machine machine_now left now held held_mid held_now i i' o o' e a stands = absurd a
+closed-fails WriteFault session session_now machine machine_now left now held held_mid held_now i i' o o' e a stands =
     let cut = a.2 in
     record {
-      script = e.script;
-      is = e.is;
+      part = e.part;
       commands = e.commands;
       last = cut.command;
       begins = record {
-        lines = acted e.script;
+        lines = acted e.part.script;
         rest = [];
-        parts = sym (append-nil (acted e.script));
-        read = inr (refl, record { front = e.commands; last = cut.command ∷ []; all = refl; read = e.read; ended = subst (λ xs. ReadsAll (last_world e.commands) xs (cut.command ∷ [])) (sym a.1) (cut.reads, tt) });
+        parts = sym (append-nil (acted e.part.script));
+        read = inr (
+          refl,
+          e.whole.fits,
+          record { front = e.commands; last = cut.command ∷ []; all = refl; read = e.read; ended = subst (λ xs. ReadsAll (last_world e.commands) xs (cut.command ∷ [])) (sym a.1) (cut.reads, tt) },
+        );
       };
       wrote = (cut.wrote.0, cut.wrote.1, Appends-trans held held_mid held_now _ _ e.wrote cut.wrote.2);
       stands = subst (λ w. Stands w machine_now) (sym (after-push empty_world e.commands cut.command)) (stands _ cut.lives);
+      stopped = inr e.whole;
     }
-closed-fails NoMemory session session_now machine machine_now left now held held_mid held_now e a stands = record {
-  script = e.script;
-  is = e.is;
+closed-fails NoMemory session session_now machine machine_now left now held held_mid held_now i i' o o' e a stands = record {
+  part = e.part;
   commands = e.commands;
-  begins = record { lines = acted e.script; rest = []; parts = sym (append-nil (acted e.script)); read = inl e.read };
+  lines = acted e.part.script;
+  rest = [];
+  parts = sym (append-nil (acted e.part.script));
+  read = e.read;
   wrote = Appends-kept held held_mid held_now _ e.wrote a;
+  more = [];
+  taken = e.all;
+  one = omega arith;
 }
 
 -- a line was not answered whole
-pub cut-line : (session session_now : Session) (machine machine_now : MachineState) (turns room room_left : ℕ) (left mid now held held_mid held_now : Option (List ℕ)) (kept : List ℕ)
-    → (s : Serving session machine turns room left mid held held_mid)
-    → (t : CutLine kept (world_after empty_world s.commands) session_now machine_now room room_left mid now held_mid held_now)
+pub cut-line : (session session_now : Session) (machine machine_now : MachineState) (turns : ℕ) (left held held_mid held_now : Option (List ℕ)) (n : LineRead) (i i' o o' : ℕ)
+    → (s : Serving session machine turns n.room left n.left held held_mid) → (r : WholeLine n)
+    → (t : CutShort (world_after empty_world s.commands) (strip r.line) session_now machine_now held_mid held_now)
     → turns + 1 ≤ MAX_LINES - 1 → (stands : (w : World) → Lives w session_now machine_now → Stands w machine_now)
-    → IsCut left held held_now machine_now
-cut-line session session_now machine machine_now turns room room_left left mid now held held_mid held_now kept s t few stands =
-    let c = t.cut.command in
-    let ls = s.lines ++ t.read.line ∷ [] in
-    let longer = longer-lines session machine turns room room_left left mid now held held_mid kept s t.read c t.cut.reads in
-    let k = known left now (joined ls) longer.took in
+    → IsCut (record { left = left; left_then = n.left_then; faults = i; faults_then = i' }) (record { held = held; held_then = held_now; faults = o; faults_then = o' }) machine_now
+cut-line session session_now machine machine_now turns left held held_mid held_now n i i' o o' s r t few stands =
+    let c = t.command in
+    let ls = s.lines ++ r.line ∷ [] in
+    let longer = longer-lines session machine turns left held held_mid n s r c t.reads in
+    let part = part_of left n.left_then (joined ls) longer.took in
     record {
-      script = joined ls ++ k.rest;
-      is = k.is;
+      part = part;
       commands = s.commands;
       last = c;
-      begins = begins ls (s.commands ++ c ∷ []) k.rest room_left (MAX_LINES - 1 - (turns + 1)) longer.plain longer.space (omega (arith, length-append s.lines (t.read.line ∷ []), s.count, few)) longer.read;
-      wrote = (t.cut.wrote.0, t.cut.wrote.1, Appends-trans held held_mid held_now _ _ s.wrote t.cut.wrote.2);
-      stands = subst (λ w. Stands w machine_now) (sym (after-push empty_world s.commands c)) (stands _ t.cut.lives);
+      begins = begins ls (s.commands ++ c ∷ []) part.rest n.room_then (MAX_LINES - 1 - (turns + 1)) longer.plain longer.space (omega (arith, length-append s.lines (r.line ∷ []), s.count, few)) longer.read;
+      wrote = (t.wrote.0, t.wrote.1, Appends-trans held held_mid held_now _ _ s.wrote t.wrote.2);
+      stands = subst (λ w. Stands w machine_now) (sym (after-push empty_world s.commands c)) (stands _ t.lives);
+      stopped = inl (takes-lines ls (s.commands ++ c ∷ []) longer.plain longer.read);
     }
 
-pub cut-end : (session session_now : Session) (machine machine_now : MachineState) (turns room room_left : ℕ) (left mid now held held_mid held_now : Option (List ℕ)) (kept : List ℕ)
-    → (s : Serving session machine turns room left mid held held_mid)
-    → (t : CutEnd kept (world_after empty_world s.commands) session_now machine_now room room_left mid now held_mid held_now)
-    → turns + length (some_line t.read.line) ≤ MAX_LINES - 1 → (stands : (w : World) → Lives w session_now machine_now → Stands w machine_now)
-    → IsCut left held held_now machine_now
-cut-end session session_now machine machine_now turns room room_left left mid now held held_mid held_now kept s t few stands =
-    let c = t.cut.command in
-    let cs = s.commands ++ c ∷ [] in
+pub cut-end : (session session_now : Session) (machine machine_now : MachineState) (turns : ℕ) (left held held_mid held_now : Option (List ℕ)) (n : LineRead) (i i' o o' : ℕ)
+    → (s : Serving session machine turns n.room left n.left held held_mid) → (r : LastLine n)
+    → (last : List ℕ) → some_line r.line ≡ last ∷ []
+    → (t : CutShort (world_after empty_world s.commands) last session_now machine_now held_mid held_now)
+    → turns + length (some_line r.line) ≤ MAX_LINES - 1 → (stands : (w : World) → Lives w session_now machine_now → Stands w machine_now)
+    → IsCut (record { left = left; left_then = n.left_then; faults = i; faults_then = i' }) (record { held = held; held_then = held_now; faults = o; faults_then = o' }) machine_now
+cut-end session session_now machine machine_now turns left held held_mid held_now n i i' o o' s r last is t few stands =
+    let c = t.command in
     let more = MAX_LINES - 1 - turns in
-    let script = joined s.lines ++ t.read.line in
-    let acts : acted script ≡ map strip s.lines ++ (t.last ∷ []) =
-    last-acted s.lines t.read.line room more s.plain s.space (omega (arith, s.count, few)) t.read.plain (omega (arith, t.read.space)) (omega (arith, few)) ∙ ap (λ xs. map strip s.lines ++ xs) t.is in
+    let script = joined s.lines ++ r.line in
+    let count : MAX_LINES - 1 ≡ length s.lines + more = omega (arith, s.count, few) in
+    let fits : length r.line ≤ n.room = omega (arith, r.space) in
+    let less : length (some_line r.line) ≤ more = omega (arith, few) in
+    let acts : acted script ≡ map strip s.lines ++ (last ∷ []) =
+    last-acted s.lines r.line n.room more s.plain s.space count r.plain fits less ∙ ap (λ xs. map strip s.lines ++ xs) is in
     record {
-      script = script;
-      is = known-end left now script (Consumes-trans left mid now _ _ s.took t.read.took) t.read.ended;
+      part = whole_part left n.left_then script (Consumes-trans left n.left n.left_then _ _ s.took r.took) r.ended;
       commands = s.commands;
       last = c;
       begins = record {
-        lines = map strip s.lines ++ t.last ∷ [];
+        lines = map strip s.lines ++ last ∷ [];
         rest = [];
-        parts = acts ∙ sym (append-nil (map strip s.lines ++ t.last ∷ []));
-        read = inl (reads-push empty_world (map strip s.lines) t.last s.commands c s.read t.cut.reads);
+        parts = acts ∙ sym (append-nil (map strip s.lines ++ last ∷ []));
+        read = inl (reads-push empty_world (map strip s.lines) last s.commands c s.read t.reads);
       };
-      wrote = (t.cut.wrote.0, t.cut.wrote.1, Appends-trans held held_mid held_now _ _ s.wrote t.cut.wrote.2);
-      stands = subst (λ w. Stands w machine_now) (sym (after-push empty_world s.commands c)) (stands _ t.cut.lives);
+      wrote = (t.wrote.0, t.wrote.1, Appends-trans held held_mid held_now _ _ s.wrote t.wrote.2);
+      stands = subst (λ w. Stands w machine_now) (sym (after-push empty_world s.commands c)) (stands _ t.lives);
+      stopped = inr (record { all = refl; ended = r.ended; fits = last-short s.lines r.line n.room more s.plain s.space count r.plain fits less });
     }
 
-pub broken : (session session_now : Session) (machine machine_now : MachineState) (turns room : ℕ) (left mid now held held_mid held_now : Option (List ℕ))
-    → (s : Serving session machine turns room left mid held held_mid) → Broken mid now → Unanswered (world_after empty_world s.commands) session_now machine_now held_mid held_now
-    → (stands : (w : World) → Lives w session_now machine_now → Stands w machine_now) → IsBroken left now held held_now machine_now
-broken session session_now machine machine_now turns room left mid now held held_mid held_now s b u stands =
+pub broken : (session session_now : Session) (machine machine_now : MachineState) (turns : ℕ) (left held held_mid held_now : Option (List ℕ)) (n : LineRead) (i i' o o' : ℕ)
+    → (s : Serving session machine turns n.room left n.left held held_mid) → Broken n → Unanswered (world_after empty_world s.commands) session_now machine_now held_mid held_now
+    → (stands : (w : World) → Lives w session_now machine_now → Stands w machine_now)
+    → IsBroken (record { left = left; left_then = n.left_then; faults = i; faults_then = i' }) (record { held = held; held_then = held_now; faults = o; faults_then = o' }) machine_now
+broken session session_now machine machine_now turns left held held_mid held_now n i i' o o' s b u stands =
     let whole : ended_lines (joined s.lines ++ b.line) ≡ map strip s.lines =
     ended-joined s.lines b.line s.plain ∙ ap (λ x. map strip s.lines ++ x) (ended-plain b.line b.plain) ∙ append-nil (map strip s.lines) in
     record {
       taken = joined s.lines ++ b.line;
-      took = Consumes-trans left mid now _ _ s.took b.took;
+      took = Consumes-trans left n.left n.left_then _ _ s.took b.took;
       commands = s.commands;
       read = subst (λ xs. ReadsAll empty_world xs s.commands) (sym whole) s.read;
       wrote = Appends-kept held held_mid held_now _ s.wrote u.kept;
       stands = stands _ u.lives;
     }
 
--- where nothing more is acted on
-stops : (script : List ℕ) (session session_now : Session) (machine machine_now : MachineState) (turns room : ℕ) (left mid held held_mid held_now : Option (List ℕ))
-    → (s : Serving session machine turns room left mid held held_mid) → IsScript left script → acted script ≡ map strip s.lines → Unanswered (world_after empty_world s.commands) session_now machine_now held_mid held_now
-    → (stands : (w : World) → Lives w session_now machine_now → Stands w machine_now) → IsTooLong script → IsTooMany left held held_now machine_now
-stops script session session_now machine machine_now turns room left mid held held_mid held_now s is acts u stands long = record {
-  script = script;
-  is = is;
-  commands = s.commands;
-  read = subst (λ xs. ReadsAll empty_world xs s.commands) (sym acts) s.read;
-  wrote = Appends-kept held held_mid held_now _ s.wrote u.kept;
-  stands = stands _ u.lives;
-  long = long;
-  going = s.going;
-}
+-- where nothing more is acted on: behind the lines that are answered, this was taken
+stops : (session session_now : Session) (machine machine_now : MachineState) (turns room : ℕ) (left mid now held held_mid held_now : Option (List ℕ)) (i i' o o' : ℕ)
+    → (s : Serving session machine turns room left mid held held_mid) → (x : List ℕ) → Consumes mid now x
+    → ((rest : List ℕ) → acted (joined s.lines ++ (x ++ rest)) ≡ map strip s.lines)
+    → Unanswered (world_after empty_world s.commands) session_now machine_now held_mid held_now
+    → (stands : (w : World) → Lives w session_now machine_now → Stands w machine_now)
+    → IsTooLong (joined s.lines ++ x) → length (joined s.lines ++ x) ≤ MAX_BYTES + 1 → length (lines_in x) ≤ 1 → turns ≤ MAX_LINES - 1
+    → IsTooMany (record { left = left; left_then = now; faults = i; faults_then = i' }) (record { held = held; held_then = held_now; faults = o; faults_then = o' }) machine_now
+stops session session_now machine machine_now turns room left mid now held held_mid held_now i i' o o' s x took acts u stands long bytes one few =
+    let part = part_of left now (joined s.lines ++ x) (Consumes-trans left mid now _ _ s.took took) in
+    let all : acted part.script ≡ map strip s.lines = ap acted (append_assoc (joined s.lines) x part.rest) ∙ acts part.rest in
+    record {
+      part = part;
+      commands = s.commands;
+      read = subst (λ xs. ReadsAll empty_world xs s.commands) (sym all) s.read;
+      wrote = Appends-kept held held_mid held_now _ s.wrote u.kept;
+      stands = stands _ u.lives;
+      long = record {
+        long = long;
+        bytes = bytes;
+        lines = omega (arith, ap length (lines-joined s.lines x s.plain), length-append (map strip s.lines) (lines_in x), length-map s.lines strip, s.count, one, few);
+      };
+      going = s.going;
+    }
 
-pub too-far : (session session_now : Session) (machine machine_now : MachineState) (turns room : ℕ) (left mid now held held_mid held_now : Option (List ℕ))
-    → (s : Serving session machine turns room left mid held held_mid) → PastRoom room mid now → turns ≤ MAX_LINES - 1 → Unanswered (world_after empty_world s.commands) session_now machine_now held_mid held_now
-    → (stands : (w : World) → Lives w session_now machine_now → Stands w machine_now) → IsTooMany left held held_now machine_now
-too-far session session_now machine machine_now turns room left mid now held held_mid held_now s p few u stands =
+pub too-far : (session session_now : Session) (machine machine_now : MachineState) (turns : ℕ) (left held held_mid held_now : Option (List ℕ)) (n : LineRead) (i i' o o' : ℕ)
+    → (s : Serving session machine turns n.room left n.left held held_mid) → PastRoom n → turns ≤ MAX_LINES - 1 → Unanswered (world_after empty_world s.commands) session_now machine_now held_mid held_now
+    → (stands : (w : World) → Lives w session_now machine_now → Stands w machine_now)
+    → IsTooMany (record { left = left; left_then = n.left_then; faults = i; faults_then = i' }) (record { held = held; held_then = held_now; faults = o; faults_then = o' }) machine_now
+too-far session session_now machine machine_now turns left held held_mid held_now n i i' o o' s p few u stands =
     let more = MAX_LINES - 1 - turns in
-    let k = known left now (joined s.lines ++ (p.line ++ p.byte ∷ [])) (Consumes-trans left mid now _ _ s.took p.took) in
-    let tail = p.line ++ p.byte ∷ k.rest in
-    let e : (joined s.lines ++ (p.line ++ p.byte ∷ [])) ++ k.rest ≡ joined s.lines ++ tail =
-    append_assoc (joined s.lines) (p.line ++ p.byte ∷ []) k.rest ∙ ap (λ r. joined s.lines ++ r) (append_assoc p.line (p.byte ∷ []) k.rest) in
-    let acts : acted (joined s.lines ++ tail) ≡ map strip s.lines =
-    so_far s.lines tail room more s.plain s.space (omega (arith, s.count, few))
-    ∙ ap (λ k. map strip s.lines ++ acted_within more k tail) p.space
-    ∙ ap (λ x. map strip s.lines ++ x) (acted-past p.line k.rest p.byte more p.plain) ∙ append-nil (map strip s.lines) in
-    stops (joined s.lines ++ tail) session session_now machine machine_now turns room left mid held held_mid held_now s (subst (IsScript left) e k.is) acts u stands
-    (inl (omega (arith, length-append (joined s.lines) tail, length-append p.line (p.byte ∷ k.rest), s.space, p.space)))
+    let x = p.line ++ p.byte ∷ [] in
+    let acts : (rest : List ℕ) → acted (joined s.lines ++ (x ++ rest)) ≡ map strip s.lines = λ rest.
+    ap (λ y. acted (joined s.lines ++ y)) (append_assoc p.line (p.byte ∷ []) rest)
+    ∙ so_far s.lines (p.line ++ p.byte ∷ rest) n.room more s.plain s.space (omega (arith, s.count, few))
+    ∙ ap (λ k. map strip s.lines ++ acted_within more k (p.line ++ p.byte ∷ rest)) p.space
+    ∙ ap (λ y. map strip s.lines ++ y) (acted-past p.line rest p.byte more p.plain) ∙ append-nil (map strip s.lines) in
+    let size : length (joined s.lines ++ x) ≡ MAX_BYTES + 1 = omega (arith, length-append (joined s.lines) x, length-append p.line (p.byte ∷ []), s.space, p.space) in
+    stops session session_now machine machine_now turns n.room left n.left n.left_then held held_mid held_now i i' o o' s x p.took acts u stands
+    (inl (omega (arith, size))) (omega (arith, size)) (few-past p.line p.byte p.plain) few
 
 -- a line more than there may be
 one-more : (lines : List (List ℕ)) (x : List ℕ) → NoFeeds lines → length lines ≡ MAX_LINES - 1 → 0 < length (lines_in x) → IsTooLong (joined lines ++ x)
@@ -292,25 +349,24 @@ full : (lines : List (List ℕ)) (x : List ℕ) (room : ℕ) → NoFeeds lines �
 full lines x room plain space count =
     so_far lines x room 0 plain space (omega (arith, count)) ∙ ap (λ r. map strip lines ++ r) (acted-none x room) ∙ append-nil (map strip lines)
 
-pub too-many : (session session_now : Session) (machine machine_now : MachineState) (turns room room_left : ℕ) (left mid now held held_mid held_now : Option (List ℕ)) (kept : List ℕ)
-    → (s : Serving session machine turns room left mid held held_mid) → IsMore kept room room_left mid now → turns ≡ MAX_LINES - 1 → Unanswered (world_after empty_world s.commands) session_now machine_now held_mid held_now
-    → (stands : (w : World) → Lives w session_now machine_now → Stands w machine_now) → IsTooMany left held held_now machine_now
-too-many session session_now machine machine_now turns room room_left left mid now held held_mid held_now kept s more few u stands =
+pub too-many : (session session_now : Session) (machine machine_now : MachineState) (turns : ℕ) (left held held_mid held_now : Option (List ℕ)) (n : LineRead) (i i' o o' : ℕ)
+    → (s : Serving session machine turns n.room left n.left held held_mid) → IsMore n → turns ≡ MAX_LINES - 1 → Unanswered (world_after empty_world s.commands) session_now machine_now held_mid held_now
+    → (stands : (w : World) → Lives w session_now machine_now → Stands w machine_now)
+    → IsTooMany (record { left = left; left_then = n.left_then; faults = i; faults_then = i' }) (record { held = held; held_then = held_now; faults = o; faults_then = o' }) machine_now
+too-many session session_now machine machine_now turns left held held_mid held_now n i i' o o' s more few u stands =
     let count : length s.lines ≡ MAX_LINES - 1 = s.count ∙ few in
     elim more [
-      | inl far ↦ too-far session session_now machine machine_now turns room left mid now held held_mid held_now s far (omega (arith, few)) u stands
+      | inl far ↦ too-far session session_now machine machine_now turns left held held_mid held_now n i i' o o' s far (omega (arith, few)) u stands
       | inr other ↦ elim other [
         | inl whole ↦
-            let k = known left now (joined s.lines ++ (whole.line ++ 10 ∷ [])) (Consumes-trans left mid now _ _ s.took whole.took) in
-            let tail = whole.line ++ 10 ∷ k.rest in
-            let e : (joined s.lines ++ (whole.line ++ 10 ∷ [])) ++ k.rest ≡ joined s.lines ++ tail =
-            append_assoc (joined s.lines) (whole.line ++ 10 ∷ []) k.rest ∙ ap (λ r. joined s.lines ++ r) (append_assoc whole.line (10 ∷ []) k.rest) in
-            stops (joined s.lines ++ tail) session session_now machine machine_now turns room left mid held held_mid held_now s (subst (IsScript left) e k.is)
-            (full s.lines tail room s.plain s.space count) u stands (one-more s.lines tail s.plain count (whole-more whole.line k.rest whole.plain))
+            let x = whole.line ++ 10 ∷ [] in
+            stops session session_now machine machine_now turns n.room left n.left n.left_then held held_mid held_now i i' o o' s x whole.took
+            (λ rest. full s.lines (x ++ rest) n.room s.plain s.space count) u stands (one-more s.lines x s.plain count (whole-more whole.line [] whole.plain))
+            (omega (arith, length-append (joined s.lines) x, length-append whole.line (10 ∷ []), s.space, whole.space)) (few-whole whole.line whole.plain) (omega (arith, few))
         | inr last ↦
             let r = last.0 in
-            stops (joined s.lines ++ r.line) session session_now machine machine_now turns room left mid held held_mid held_now s
-            (known-end left now (joined s.lines ++ r.line) (Consumes-trans left mid now _ _ s.took r.took) r.ended)
-            (full s.lines r.line room s.plain s.space count) u stands (one-more s.lines r.line s.plain count (last-more r.line r.plain last.1))
+            stops session session_now machine machine_now turns n.room left n.left n.left_then held held_mid held_now i i' o o' s r.line r.took
+            (λ rest. full s.lines (r.line ++ rest) n.room s.plain s.space count) u stands (one-more s.lines r.line s.plain count (last-more r.line r.plain last.1))
+            (omega (arith, length-append (joined s.lines) r.line, s.space, r.space)) (few-plain r.line r.plain) (omega (arith, few))
       ]
     ]

@@ -1,10 +1,10 @@
 -- How lines that were read, and what is left, make up a script.
-use Rattle.std.proofs.Common.{◌≡◌, ◌<◌, ◌≤◌, ℕ, ◌+◌, ◌-◌, Bool, true, false, if◌then◌else◌, List, [], ◌∷◌, ◌++◌, length, length-append, take, map, get_or, refl, sym, ap, ◌∙◌, append_assoc, arith, nat_lt, take_all}
-use Rattle.std.proofs.lemmas.Bool.{ltb_from_iff, ltb-true, lt-ltb, le-ltb}
+use Rattle.std.proofs.Common.{◌≡◌, ◌<◌, ◌≤◌, ℕ, ◌+◌, ◌-◌, Bool, true, false, if◌then◌else◌, List, [], ◌∷◌, ◌++◌, length, length-append, take, map, get_or, refl, sym, ap, ◌∙◌, append_assoc, append-nil, subst, inl, inr, arith, nat_lt, take_all}
+use Rattle.std.proofs.lemmas.Bool.{ltb_from_iff, ltb-true, lt-ltb, le-ltb, cases_eq}
 use Rattle.std.proofs.lemmas.List.{map-append, length-map, get_or-append-add}
 use Rattle.std.proofs.Math.Seq.{take-append-add, take-append_seam, take-nil}
 use Rattle.dice_base.specs.Lines.{pieces, NoFeed, NoFeeds, joined, whole_lines, some_line}
-use Rattle.dice_base.specs.LinesLaws.{pieces-joined, pieces-plain, pieces-some, whole_lines-joined, whole_lines-plain}
+use Rattle.dice_base.specs.LinesLaws.{NoFeed-push, pieces-joined, pieces-plain, pieces-some, whole_lines-joined, whole_lines-plain}
 use Rattle.script_lines.specs.Front.{strip}
 use Rattle.dice_program.specs.Script.{ended_lines, last_piece, lines_in, acted_within}
 
@@ -99,3 +99,28 @@ whole-more line rest plain =
 pub last-more : (line : List ℕ) → NoFeed line → 0 < length line → 0 < length (lines_in line)
 last-more [] plain some = absurd (omega (arith, some))
 last-more (b ∷ bs) plain some = omega (arith, ap length (lines-plain (b ∷ bs) plain))
+
+-- whole lines alone
+pub ended-all : (ls : List (List ℕ)) → NoFeeds ls → ended_lines (joined ls) ≡ map strip ls
+ended-all ls h =
+    ap ended_lines (sym (append-nil (joined ls))) ∙ ended-joined ls [] h ∙ ap (λ x. map strip ls ++ x) (ended-plain [] tt) ∙ append-nil (map strip ls)
+
+pub last-all : (ls : List (List ℕ)) → NoFeeds ls → last_piece (joined ls) ≡ []
+last-all ls h = ap last_piece (sym (append-nil (joined ls))) ∙ last-joined ls [] h ∙ last-plain [] tt
+
+pub lines-all : (ls : List (List ℕ)) → NoFeeds ls → lines_in (joined ls) ≡ map strip ls
+lines-all ls h =
+    ap lines_in (sym (append-nil (joined ls))) ∙ lines-joined ls [] h ∙ ap (λ x. map strip ls ++ x) (lines-plain [] tt) ∙ append-nil (map strip ls)
+
+-- one line, whole or in part
+pub few-plain : (line : List ℕ) → NoFeed line → length (lines_in line) ≤ 1
+few-plain line plain = omega (arith, ap length (lines-plain line plain), some-few line)
+
+pub few-whole : (line : List ℕ) → NoFeed line → length (lines_in (line ++ 10 ∷ [])) ≤ 1
+few-whole line plain = omega (arith, ap length (lines-all (line ∷ []) (plain, tt)))
+
+pub few-past : (line : List ℕ) (b : ℕ) → NoFeed line → length (lines_in (line ++ b ∷ [])) ≤ 1
+few-past line b plain = elim (cases_eq b 10) [
+  | inl feed ↦ subst (λ x. length (lines_in (line ++ x ∷ [])) ≤ 1) (sym feed) (few-whole line plain)
+  | inr other ↦ few-plain (line ++ b ∷ []) (NoFeed-push line b plain other)
+]

@@ -7,15 +7,15 @@ use Rattle.dice_base.specs.Known.{Consumes-nil, Consumes-trans, Appends-nil, App
 use Rattle.dice_base.specs.Lines.{NoFeeds, joined}
 use Rattle.dice_base.specs.LinesLaws.{joined-push, NoFeeds-push}
 use Rattle.script_lines.specs.Front.{strip}
-use Rattle.script_lines.specs.Took.{WholeLine}
+use Rattle.script_lines.specs.Took.{LineRead, WholeLine}
 use Rattle.pdp11_machine.specs.State.{MachineState}
 use Rattle.dice_session.specs.declared.session.Session.{Session}
 use Rattle.dice_session.specs.World.{Over, Command, ReadsAll, Reads, empty_world, reply_of, replies_from, world_after}
 use Rattle.dice_session.specs.Lives.{Lives}
 use Rattle.dice_program.specs.Script.{MAX_BYTES, MAX_LINES, acted_within, acted}
-use Rattle.dice_program.specs.Turns.{Stepped}
-use Rattle.dice_program.specs.Top.{IsScript}
-use Rattle.dice_program.proofs.Pieces.{acted-joined}
+use Rattle.dice_program.specs.Turns.{Answered}
+use Rattle.dice_program.specs.Taking.{IsScript, ScriptPart, TakesOnly}
+use Rattle.dice_program.proofs.Pieces.{acted-joined, ended-all, last-all}
 use Rattle.dice_program.proofs.Commands.{after-push, replies-push, reads-push}
 
 -- so many lines were read, obeyed and answered
@@ -55,38 +55,38 @@ pub record Longer (lines : List (List ℕ)) (commands : List Command) (session :
   pub took : Consumes left left_now (joined lines)
   pub read : ReadsAll empty_world (map strip lines) commands
 
-pub longer-lines : (session : Session) (machine : MachineState) (turns room room_left : ℕ) (left mid now held held_now : Option (List ℕ)) (kept : List ℕ)
-    → (s : Serving session machine turns room left mid held held_now) → (r : WholeLine kept room room_left mid now) → (c : Command)
+pub longer-lines : (session : Session) (machine : MachineState) (turns : ℕ) (left held held_now : Option (List ℕ)) (n : LineRead)
+    → (s : Serving session machine turns n.room left n.left held held_now) → (r : WholeLine n) → (c : Command)
     → Reads (world_after empty_world s.commands).mode (strip r.line) c
-    → Longer (s.lines ++ r.line ∷ []) (s.commands ++ c ∷ []) session machine room_left left now held held_now
-longer-lines session machine turns room room_left left mid now held held_now kept s r c reads =
+    → Longer (s.lines ++ r.line ∷ []) (s.commands ++ c ∷ []) session machine n.room_then left n.left_then held held_now
+longer-lines session machine turns left held held_now n s r c reads =
     let longer : joined (s.lines ++ r.line ∷ []) ≡ joined s.lines ++ (r.line ++ 10 ∷ []) = joined-push s.lines r.line in
     record {
       plain = NoFeeds-push s.lines r.line s.plain r.plain;
       space = omega (arith, ap length longer, length-append (joined s.lines) (r.line ++ 10 ∷ []), length-append r.line (10 ∷ []), s.space, r.space);
-      took = subst (Consumes left now) (sym longer) (Consumes-trans left mid now _ _ s.took r.took);
+      took = subst (Consumes left n.left_then) (sym longer) (Consumes-trans left n.left n.left_then _ _ s.took r.took);
       read = subst (λ ls. ReadsAll empty_world ls (s.commands ++ c ∷ [])) (sym (map-append strip s.lines (r.line ∷ []))) (reads-push empty_world (map strip s.lines) (strip r.line) s.commands c s.read reads);
     }
 
 -- one line more
-pub serving-turn : (session session_now : Session) (machine machine_now : MachineState) (turns room room_left : ℕ) (left mid now held held_mid held_now : Option (List ℕ)) (kept : List ℕ)
-    → (s : Serving session machine turns room left mid held held_mid)
-    → (t : Stepped kept (world_after empty_world s.commands) session_now machine_now room room_left mid now held_mid held_now)
-    → ((reply_of (world_after empty_world s.commands) t.answered.command).0.mode ≡ Over → ⊥)
-    → Serving session_now machine_now (turns + 1) room_left left now held held_now
-serving-turn session session_now machine machine_now turns room room_left left mid now held held_mid held_now kept s t going =
-    let c = t.answered.command in
-    let longer = longer-lines session machine turns room room_left left mid now held held_mid kept s t.read c t.answered.reads in
+pub serving-turn : (session session_now : Session) (machine machine_now : MachineState) (turns : ℕ) (left held held_mid held_now : Option (List ℕ)) (n : LineRead)
+    → (s : Serving session machine turns n.room left n.left held held_mid) → (r : WholeLine n)
+    → (t : Answered (world_after empty_world s.commands) (strip r.line) session_now machine_now held_mid held_now)
+    → ((reply_of (world_after empty_world s.commands) t.command).0.mode ≡ Over → ⊥)
+    → Serving session_now machine_now (turns + 1) n.room_then left n.left_then held held_now
+serving-turn session session_now machine machine_now turns left held held_mid held_now n s r t going =
+    let c = t.command in
+    let longer = longer-lines session machine turns left held held_mid n s r c t.reads in
     record {
-      lines = s.lines ++ t.read.line ∷ [];
+      lines = s.lines ++ r.line ∷ [];
       commands = s.commands ++ c ∷ [];
       plain = longer.plain;
-      count = omega (arith, length-append s.lines (t.read.line ∷ []), s.count);
+      count = omega (arith, length-append s.lines (r.line ∷ []), s.count);
       space = longer.space;
       took = longer.took;
       read = longer.read;
-      wrote = subst (Appends held held_now) (sym (replies-push empty_world s.commands c)) (Appends-trans held held_mid held_now _ _ s.wrote t.answered.wrote);
-      lives = subst (λ w. Lives w session_now machine_now) (sym (after-push empty_world s.commands c)) t.answered.lives;
+      wrote = subst (Appends held held_now) (sym (replies-push empty_world s.commands c)) (Appends-trans held held_mid held_now _ _ s.wrote t.wrote);
+      lives = subst (λ w. Lives w session_now machine_now) (sym (after-push empty_world s.commands c)) t.lives;
       going = λ over. going (ap (λ w. w.mode) (sym (after-push empty_world s.commands c)) ∙ over);
     }
 
@@ -112,3 +112,21 @@ pub known-end : (left left_now : Option (List ℕ)) (taken : List ℕ) → Consu
 known-end None left_now taken took ended = tt
 known-end (Some whole) None taken took ended = absurd took
 known-end (Some whole) (Some rest) taken took ended = took ∙ ap (λ r. taken ++ r) ended ∙ append-nil taken
+
+-- what was taken, as a part of the script
+abbrev pub part_of : (left left_now : Option (List ℕ)) (taken : List ℕ) → Consumes left left_now taken → ScriptPart left left_now
+part_of left left_now taken took = record {
+  script = taken ++ (known left left_now taken took).rest;
+  taken = taken;
+  rest = (known left left_now taken took).rest;
+  parts = refl;
+  is = (known left left_now taken took).is;
+  took = took;
+}
+
+-- whole lines were taken, and no more
+pub takes-lines : (lines : List (List ℕ)) (commands : List Command) → NoFeeds lines → ReadsAll empty_world (map strip lines) commands → TakesOnly (joined lines) commands
+takes-lines lines commands plain read = record {
+  read = subst (λ ls. ReadsAll empty_world ls commands) (sym (ended-all lines plain)) read;
+  exact = last-all lines plain;
+}

@@ -1,21 +1,25 @@
 -- From an answer to a turn.
-use Rattle.std.proofs.Common.{◌≡◌, ◌==◌, ◌<◌, ℕ, ◌+◌, true, false, List, [], ◌∷◌, ◌++◌, Ok, Err, Result, length, take, refl, sym, ap, subst, ◌∙◌, append-nil, arith, inl, inr}
+use Rattle.std.proofs.Common.{◌≡◌, ◌==◌, ◌<◌, ℕ, ◌+◌, true, false, List, [], ◌∷◌, ◌++◌, None, Some, Ok, Err, Result, length, take, refl, sym, ap, subst, ◌∙◌, append-nil, arith, inl, inr}
 use Rattle.std.proofs.lemmas.Bool.{eqb-true}
 use Rattle.std.proofs.lemmas.List.{take-take, length-take}
 use Rattle.std.specs.declared.option.Option.{Option}
-use Rattle.std.specs.Io.KnownBytes.{Appends}
+use Rattle.std.specs.Io.KnownBytes.{Keeps, Appends}
 use Rattle.dice_base.specs.Known.{Appends-nil}
 use Rattle.dice_base.specs.Lines.{some_line}
 use Rattle.dice_base.specs.Part.{WritesPart}
 use Rattle.script_lines.specs.Front.{strip, kept_bytes, longest_text, SameFront}
-use Rattle.script_lines.specs.Took.{WholeLine, LastLine}
+use Rattle.script_lines.specs.Took.{LineRead, WholeLine, LastLine, Broken}
+use Rattle.script_lines.specs.declared.line.LineFault.{LineFault}
+use Rattle.script_lines.specs.declared.line.LineFault.TheVariants.{SourceFailed}
+use Rattle.script_lines.specs.declared.line.LineFault.TheVariants as line
 use Rattle.pdp11_machine.specs.State.{MachineState}
 use Rattle.dice_session.specs.declared.session.Session.{Session}
 use Rattle.dice_session.specs.World.{World, reply_of}
 use Rattle.dice_session.specs.Lives.{Lives, Replied}
 use Rattle.dice_program.specs.declared.serve.Fault.{Fault}
 use Rattle.dice_program.specs.declared.serve.Fault.TheVariants.{ReadFault, WriteFault, NoMemory}
-use Rattle.dice_program.specs.Turns.{Answered, CutShort, Answers, AnsweredAll, AnswersSome, Turns, IsMore, IsNoMore}
+use Rattle.dice_program.specs.Turns.{Answered, CutShort, Answers, AnsweredAll, AnswersSome, Turns, IsMore, IsNoMore, fault_of}
+use Rattle.dice_program.proofs.Pieces.{few-plain, few-whole}
 
 pub answered : (w : World) (l before after written : List ℕ) (s : Session) (m : MachineState) (h k : Option (List ℕ)) → Replied w l before after s m → before ≡ [] → written ≡ after
     → Appends h k written → Answered w l s m h k
@@ -86,24 +90,34 @@ pub last-front : (line l : List ℕ) → line ≡ take kept_bytes l → SameFron
 last-front line l is = sym (take-take (longest_text + 1) kept_bytes l (omega arith)) ∙ ap (take (longest_text + 1)) (sym is)
 
 -- a whole line that was not answered whole
-pub turn-cut : (e : Fault) (kept : List ℕ) (w : World) (s : Session) (m : MachineState) (room room_left : ℕ) (left left_then h k : Option (List ℕ)) → (r : WholeLine kept room room_left left left_then)
-    → Answers (Err e) w (strip r.line) s m h k → Turns (Err e) kept w s m room room_left left left_then h k
-turn-cut ReadFault kept w s m room room_left left left_then h k r a = absurd a
-turn-cut WriteFault kept w s m room room_left left left_then h k r a = inl (record { read = r; cut = a })
-turn-cut NoMemory kept w s m room room_left left left_then h k r a = a
+pub turn-cut : (e : Fault) (w : World) (s : Session) (m : MachineState) (n : LineRead) (h k : Option (List ℕ)) → (r : WholeLine n)
+    → Answers (Err e) w (strip r.line) s m h k → Turns (Err e) w s m n h k
+turn-cut ReadFault w s m n h k r a = absurd a
+turn-cut WriteFault w s m n h k r a = inl (r, a)
+turn-cut NoMemory w s m n h k r a = (record { taken = r.line ++ 10 ∷ []; took = r.took; one = few-whole r.line r.plain }, a)
 
 -- a last line that was not answered whole
-pub turn-cut-last : (e : Fault) (kept : List ℕ) (w : World) (s : Session) (m : MachineState) (room room_left : ℕ) (left left_then h k : Option (List ℕ)) → (r : LastLine kept room room_left left left_then)
-    → AnswersSome (Err e) w (some_line r.line) s m h k → Turns (Err e) kept w s m room room_left left left_then h k
-turn-cut-last ReadFault kept w s m room room_left left left_then h k r a = absurd a
-turn-cut-last WriteFault kept w s m room room_left left left_then h k r a = inr (record { read = r; last = a.0; is = a.1; cut = a.2 })
-turn-cut-last NoMemory kept w s m room room_left left left_then h k r a = a
+pub turn-cut-last : (e : Fault) (w : World) (s : Session) (m : MachineState) (n : LineRead) (h k : Option (List ℕ)) → (r : LastLine n)
+    → AnswersSome (Err e) w (some_line r.line) s m h k → Turns (Err e) w s m n h k
+turn-cut-last ReadFault w s m n h k r a = absurd a
+turn-cut-last WriteFault w s m n h k r a = inr (r, a)
+turn-cut-last NoMemory w s m n h k r a = (record { taken = r.line; took = r.took; one = few-plain r.line r.plain }, a)
 
-pub empty-last : (kept : List ℕ) (room room_left : ℕ) (left left_then : Option (List ℕ)) → LastLine kept room room_left left left_then → kept ≡ [] → IsNoMore kept room room_left left left_then
-empty-last kept room room_left left left_then r empty = (r, go r.line r.front) where
-  go : (l : List ℕ) → kept ≡ take kept_bytes l → l ≡ []
+pub keeps-refl : (h : Option (List ℕ)) → Keeps h h
+keeps-refl None = tt
+keeps-refl (Some x) = refl
+
+-- a line that was not read whole
+pub turn-unread : (e : LineFault) (w : World) (s : Session) (m : MachineState) (n : LineRead) (h : Option (List ℕ)) → Broken n → Lives w s m
+    → Turns (Err (fault_of e)) w s m n h h
+turn-unread SourceFailed w s m n h b lives = (b, record { kept = keeps-refl h; lives = lives })
+turn-unread line.NoMemory w s m n h b lives = (record { taken = b.line; took = b.took; one = few-plain b.line b.plain }, keeps-refl h)
+
+pub empty-last : (n : LineRead) → LastLine n → n.kept ≡ [] → IsNoMore n
+empty-last n r empty = (r, go r.line r.front) where
+  go : (l : List ℕ) → n.kept ≡ take kept_bytes l → l ≡ []
   go [] is = refl
   go (b ∷ bs) is = absurd (omega (arith, ap length (sym empty ∙ is), length-take kept_bytes (b ∷ bs)))
 
-pub some-last : (kept : List ℕ) (room room_left : ℕ) (left left_then : Option (List ℕ)) → LastLine kept room room_left left left_then → 0 < length kept → IsMore kept room room_left left left_then
-some-last kept room room_left left left_then r some = inr (inr (r, omega (arith, some, ap length r.front, length-take kept_bytes r.line)))
+pub some-last : (n : LineRead) → LastLine n → 0 < length n.kept → IsMore n
+some-last n r some = inr (inr (r, omega (arith, some, ap length r.front, length-take kept_bytes r.line)))

@@ -1,4 +1,6 @@
-pub mod Status
+pub mod Ends
 pub mod Script
-pub mod Turns
+pub mod Status
+pub mod Taking
 pub mod Top
+pub mod Turns

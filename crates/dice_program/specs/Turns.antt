@@ -1,11 +1,11 @@
 -- What one turn of a run reads, does and writes.
-use Rattle.std.specs.Prelude.{◌≡◌, ◌<◌, ◌⊎◌, ℕ, true, false, List, [], ◌∷◌, length, Result, Ok, Err}
+use Rattle.std.specs.Prelude.{◌≡◌, ◌<◌, ◌≤◌, ◌⊎◌, ℕ, true, false, List, [], ◌∷◌, length, Result, Ok, Err}
 use Rattle.std.specs.declared.option.Option.{Option}
-use Rattle.std.specs.Io.KnownBytes.{Keeps, Appends}
+use Rattle.std.specs.Io.KnownBytes.{Keeps, Appends, Consumes}
 use Rattle.dice_base.specs.Lines.{some_line}
 use Rattle.dice_base.specs.Part.{WritesPart}
 use Rattle.script_lines.specs.Front.{strip}
-use Rattle.script_lines.specs.Took.{WholeLine, LastLine, PastRoom, Broken}
+use Rattle.script_lines.specs.Took.{LineRead, WholeLine, LastLine, PastRoom, Broken}
 use Rattle.script_lines.specs.declared.line.LineFault.{LineFault}
 use Rattle.script_lines.specs.declared.line.LineFault.TheVariants.{SourceFailed}
 use Rattle.script_lines.specs.declared.line.LineFault.TheVariants as line
@@ -13,6 +13,7 @@ use Rattle.pdp11_machine.specs.State.{MachineState}
 use Rattle.dice_session.specs.declared.session.Session.{Session}
 use Rattle.dice_session.specs.World.{World, Command, Reads, ReadsAll, reply_of, replies_from, world_after}
 use Rattle.dice_session.specs.Lives.{Lives, IsOver}
+use Rattle.dice_program.specs.Script.{lines_in}
 use Rattle.dice_program.specs.declared.serve.Turn.{Turn}
 use Rattle.dice_program.specs.declared.serve.Turn.TheVariants.{On, Quit, Last, TooFar}
 use Rattle.dice_program.specs.declared.serve.Ending.{Ending}
@@ -55,55 +56,47 @@ AnswersSome (Err ReadFault) w lines session machine held held_then = ⊥
 AnswersSome (Err WriteFault) w lines session machine held held_then = (line : List ℕ) × (lines ≡ line ∷ []) × CutShort w line session machine held held_then
 AnswersSome (Err NoMemory) w lines session machine held held_then = Keeps held held_then
 
--- a line was read and answered
-pub record Stepped (kept : List ℕ) (w : World) (session : Session) (machine : MachineState) (room room_left : ℕ) (left left_then held held_then : Option (List ℕ)) : Type 0 where
-  pub read : WholeLine kept room room_left left left_then
-  pub answered : Answered w (strip read.line) session machine held held_then
-
--- the end of the script was read, and what stands before it answered
-pub record AtEnd (kept : List ℕ) (w : World) (session : Session) (machine : MachineState) (room room_left : ℕ) (left left_then held held_then : Option (List ℕ)) : Type 0 where
-  pub read : LastLine kept room room_left left left_then
-  pub answered : AnsweredAll w (some_line read.line) session machine held held_then
-
--- a line was read, and not answered whole
-pub record CutLine (kept : List ℕ) (w : World) (session : Session) (machine : MachineState) (room room_left : ℕ) (left left_then held held_then : Option (List ℕ)) : Type 0 where
-  pub read : WholeLine kept room room_left left left_then
-  pub cut : CutShort w (strip read.line) session machine held held_then
-
-pub record CutEnd (kept : List ℕ) (w : World) (session : Session) (machine : MachineState) (room room_left : ℕ) (left left_then held held_then : Option (List ℕ)) : Type 0 where
-  pub read : LastLine kept room room_left left left_then
-  pub last : List ℕ
-  pub is : some_line read.line ≡ last ∷ []
-  pub cut : CutShort w last session machine held held_then
-
 -- nothing was answered
 pub record Unanswered (w : World) (session : Session) (machine : MachineState) (held held_then : Option (List ℕ)) : Type 0 where
   pub kept : Keeps held held_then
   pub lives : Lives w session machine
 
-abbrev pub Turns : Result Turn Fault → List ℕ → World → Session → MachineState → ℕ → ℕ → Option (List ℕ) → Option (List ℕ) → Option (List ℕ) → Option (List ℕ) → Type 0
-Turns (Ok On) kept w session machine room room_left left left_then held held_then = (s : Stepped kept w session machine room room_left left left_then held held_then) × IsOver false (reply_of w s.answered.command).0.mode
-Turns (Ok Quit) kept w session machine room room_left left left_then held held_then = (s : Stepped kept w session machine room room_left left left_then held held_then) × IsOver true (reply_of w s.answered.command).0.mode
-Turns (Ok Last) kept w session machine room room_left left left_then held held_then = AtEnd kept w session machine room room_left left left_then held held_then
-Turns (Ok TooFar) kept w session machine room room_left left left_then held held_then = PastRoom room left left_then × Unanswered w session machine held held_then
-Turns (Err ReadFault) kept w session machine room room_left left left_then held held_then = Broken left left_then × Unanswered w session machine held held_then
-Turns (Err WriteFault) kept w session machine room room_left left left_then held held_then =
-    CutLine kept w session machine room room_left left left_then held held_then ⊎ CutEnd kept w session machine room room_left left left_then held held_then
-Turns (Err NoMemory) kept w session machine room room_left left left_then held held_then = Keeps held held_then
+-- no more than one line was taken, whole or in part
+pub record TakesOneLine (read : LineRead) : Type 0 where
+  pub taken : List ℕ
+  pub took : Consumes read.left read.left_then taken
+  pub one : length (lines_in taken) ≤ 1
+
+-- what became of a turn: what was read of the script, and what was answered
+abbrev pub Turns : Result Turn Fault → World → Session → MachineState → LineRead → Option (List ℕ) → Option (List ℕ) → Type 0
+Turns (Ok On) w session machine read held held_then =
+    (whole : WholeLine read) × (a : Answered w (strip whole.line) session machine held held_then)
+    × IsOver false (reply_of w a.command).0.mode
+Turns (Ok Quit) w session machine read held held_then =
+    (whole : WholeLine read) × (a : Answered w (strip whole.line) session machine held held_then)
+    × IsOver true (reply_of w a.command).0.mode
+Turns (Ok Last) w session machine read held held_then =
+    (end : LastLine read) × AnsweredAll w (some_line end.line) session machine held held_then
+Turns (Ok TooFar) w session machine read held held_then =
+    PastRoom read × Unanswered w session machine held held_then
+Turns (Err ReadFault) w session machine read held held_then =
+    Broken read × Unanswered w session machine held held_then
+Turns (Err WriteFault) w session machine read held held_then =
+    ((whole : WholeLine read) × CutShort w (strip whole.line) session machine held held_then)
+    ⊎ ((end : LastLine read) × AnswersSome (Err WriteFault) w (some_line end.line) session machine held held_then)
+Turns (Err NoMemory) w session machine read held held_then = TakesOneLine read × Keeps held held_then
 
 -- where no more lines are acted on: the script has one more, or it is at its end
-abbrev pub IsMore : List ℕ → ℕ → ℕ → Option (List ℕ) → Option (List ℕ) → Type 0
-IsMore kept room room_left left left_then =
-    PastRoom room left left_then ⊎ (WholeLine kept room room_left left left_then ⊎ ((r : LastLine kept room room_left left left_then) × (0 < length r.line)))
+abbrev pub IsMore : LineRead → Type 0
+IsMore read = PastRoom read ⊎ (WholeLine read ⊎ ((end : LastLine read) × (0 < length end.line)))
 
-abbrev pub IsNoMore : List ℕ → ℕ → ℕ → Option (List ℕ) → Option (List ℕ) → Type 0
-IsNoMore kept room room_left left left_then = (r : LastLine kept room room_left left left_then) × (r.line ≡ [])
+abbrev pub IsNoMore : LineRead → Type 0
+IsNoMore read = (end : LastLine read) × (end.line ≡ [])
 
-abbrev pub Finals : Result Ending LineFault → List ℕ → ℕ → ℕ → Option (List ℕ) → Option (List ℕ) → Type 0
-Finals (Ok Done) kept room room_left left left_then = IsNoMore kept room room_left left left_then
-Finals (Ok TooMany) kept room room_left left left_then = IsMore kept room room_left left left_then
-Finals (Err SourceFailed) kept room room_left left left_then = Broken left left_then
-Finals (Err line.NoMemory) kept room room_left left left_then = Unit {0}
+abbrev pub Finals : Result Ending LineFault → LineRead → Type 0
+Finals (Ok Done) read = IsNoMore read
+Finals (Ok TooMany) read = IsMore read
+Finals (Err fault) read = Broken read
 
 -- why a line could not be read
 abbrev pub fault_of : LineFault → Fault

@@ -7,26 +7,41 @@ mod status;
 mod tests;
 mod top;
 
-use dice_base::{NoMemory, StdSink, StdSource};
+use dice_base::{NoMemory, Sink, StdSink, StdSource};
 use pdp11_machine::Machine;
 use status::Status;
 use std::env::{Env, args};
 use std::io::{ErrorKind, writer};
 use std::process::ExitCode;
-use top::dice11;
+use top::{run, told};
 
+// `run` says what the process reads, writes and ends with, as far as the kit tells what standard input gives and what
+// standard output takes.
 fn main(rt: HostRuntime) -> ExitCode {
-    let status = started(&rt).unwrap_or(Status::NoMemory);
-    ExitCode::from(status.number())
+    let mut errors = StdSink::new(rt.stderr());
+    match started(&rt, &mut errors) {
+        Ok(code) => code,
+        Err(NoMemory) => told(&mut errors, Status::NoMemory),
+    }
 }
 
-// Runs the script on standard input, on a new machine.
-fn started(rt: &(impl Env + Input + Print + AllocGlobal)) -> Result<Status, NoMemory> {
+// Runs the script on standard input, on a new machine. Where there is no memory to begin, nothing is read or written.
+fn started<E: Sink>(
+    rt: &(impl Env + Input + Print + AllocGlobal),
+    errors: &mut E,
+) -> Result<ExitCode, NoMemory> {
     let words = words_of(rt)?;
     let mut source = StdSource::new(rt.alloc(), rt.reader())?;
     let mut sink = StdSink::new(writer(rt));
     let mut machine = Machine::new(rt.alloc())?;
-    Ok(dice11(rt.alloc(), &words, &mut source, &mut sink, &mut machine))
+    Ok(run(
+        rt.alloc(),
+        &words,
+        &mut source,
+        &mut sink,
+        &mut machine,
+        errors,
+    ))
 }
 
 // The words behind the program's own name. One that is no text stands for all of them.

@@ -1,5 +1,5 @@
 //! The loop over the lines of a script.
-ghost use Rattle.std.specs.Prelude.{◌≡◌, ◌≤◌, ◌<◌, ℕ, List, [], length, take, IsErrOf};
+ghost use Rattle.std.specs.Prelude.{◌≡◌, ◌≤◌, ◌<◌, ℕ, List, [], length, take, OnOk, IsErrOf};
 ghost use Rattle.dice_base.specs.Causes.{Rose};
 ghost use Rattle.dice_base.specs.Lines.{some_line};
 ghost use Rattle.pdp11_machine.specs.State.{zero_machine};
@@ -100,6 +100,7 @@ fn answer_line<K: Sink>(
     ensures answers { (w : World) (l : List ℕ) → Lives w session.old machine.old → SameFront l line.now
         → Answers result w l session.new machine.new (K.held sink.old) (K.held sink.new) }
     ensures later { K.faults sink.old ≤ K.faults sink.new }
+    ensures same { OnOk result (K.faults sink.new ≡ K.faults sink.old) }
     ensures cause { IsErrOf result Fault.WriteFault → Rose (K.faults sink.old) (K.faults sink.new) }
     ensures not_read { IsErrOf result Fault.ReadFault → ⊥ }
 {
@@ -121,6 +122,7 @@ fn answer_last<K: Sink>(
     ensures answers { (w : World) (l : List ℕ) → Lives w session.old machine.old → line.now ≡ take kept_bytes l
         → AnswersSome result w (some_line l) session.new machine.new (K.held sink.old) (K.held sink.new) }
     ensures later { K.faults sink.old ≤ K.faults sink.new }
+    ensures same { OnOk result (K.faults sink.new ≡ K.faults sink.old) }
     ensures cause { IsErrOf result Fault.WriteFault → Rose (K.faults sink.old) (K.faults sink.new) }
     ensures not_read { IsErrOf result Fault.ReadFault → ⊥ }
 {
@@ -141,6 +143,7 @@ fn answer_end<K: Sink>(
     ensures answers { (w : World) → Lives w session.old machine.old
         → AnswersSome result w (missing_end w.mode) session.new machine.new (K.held sink.old) (K.held sink.new) }
     ensures later { K.faults sink.old ≤ K.faults sink.new }
+    ensures same { OnOk result (K.faults sink.new ≡ K.faults sink.old) }
     ensures cause { IsErrOf result Fault.WriteFault → Rose (K.faults sink.old) (K.faults sink.new) }
     ensures not_read { IsErrOf result Fault.ReadFault → ⊥ }
 {
@@ -162,9 +165,18 @@ fn take_turn<S: Source, K: Sink>(
 ) -> Result<Turn, Fault>
     requires lives { (w : World) × Lives w session.old machine.old }
     ensures turns { (w : World) → Lives w session.old machine.old
-        → Turns result line.new.items w session.new machine.new room.old room.new (S.left source.old) (S.left source.new) (K.held sink.old) (K.held sink.new) }
+        → Turns result w session.new machine.new (record {
+          kept = line.new.items;
+          room = room.old;
+          room_then = room.new;
+          left = S.left source.old;
+          left_then = S.left source.new;
+        })
+        (K.held sink.old) (K.held sink.new) }
     ensures source { S.faults source.old ≤ S.faults source.new }
     ensures sink { K.faults sink.old ≤ K.faults sink.new }
+    ensures same_source { OnOk result (S.faults source.new ≡ S.faults source.old) }
+    ensures same_sink { OnOk result (K.faults sink.new ≡ K.faults sink.old) }
     ensures read { IsErrOf result Fault.ReadFault → Rose (S.faults source.old) (S.faults source.new) }
     ensures write { IsErrOf result Fault.WriteFault → Rose (K.faults sink.old) (K.faults sink.new) }
 {
@@ -191,7 +203,13 @@ fn final_turn<S: Source>(
     room: &mut u32,
     source: &mut S,
 ) -> Result<Ending, LineFault>
-    ensures finals { Finals result line.new.items room.old room.new (S.left source.old) (S.left source.new) }
+    ensures finals { Finals result (record {
+      kept = line.new.items;
+      room = room.old;
+      room_then = room.new;
+      left = S.left source.old;
+      left_then = S.left source.new;
+    }) }
     ensures later { S.faults source.old ≤ S.faults source.new }
     ensures cause { IsErrOf result LineFault.SourceFailed → Rose (S.faults source.old) (S.faults source.new) }
 {
@@ -214,7 +232,19 @@ pub(crate) fn serve_script<S: Source, K: Sink>(
     machine: &mut Machine,
 ) -> Result<Ending, Fault>
     requires unused { machine.old ≡ zero_machine }
-    ensures serves { Serves result (S.left source.old) (S.left source.new) (K.held sink.old) (K.held sink.new) machine.new }
+    ensures serves { Serves result (record {
+      left = S.left source.old;
+      left_then = S.left source.new;
+      faults = S.faults source.old;
+      faults_then = S.faults source.new;
+    })
+        (record {
+          held = K.held sink.old;
+          held_then = K.held sink.new;
+          faults = K.faults sink.old;
+          faults_then = K.faults sink.new;
+        })
+        machine.new }
     ensures source { S.faults source.old ≤ S.faults source.new }
     ensures sink { K.faults sink.old ≤ K.faults sink.new }
     ensures read { IsErrOf result Fault.ReadFault → Rose (S.faults source.old) (S.faults source.new) }

@@ -19,7 +19,7 @@ pub enum Status {
 }
 
 impl Status {
-    ghost use Rattle.dice_program.specs.Status.{number_of};
+    ghost use Rattle.dice_program.specs.Status.{message_of, number_of};
 
     /// The exit status of the process.
     pub fn number(self) -> u8
@@ -32,6 +32,19 @@ impl Status {
             Status::WriteFault => 4,
             Status::TooMany => 6,
             Status::NoMemory => 7,
+        }
+    }
+
+    /// What is said of it on standard error: nothing, or one line.
+    pub fn message(self) -> &'static [u8]
+        ensures { result.now ≡ message_of self }
+    {
+        match self {
+            Status::Done | Status::Usage => b"",
+            Status::ReadFault => b"dice11: the script could not be read\n",
+            Status::WriteFault => b"dice11: the transcript could not be written\n",
+            Status::TooMany => b"dice11: the script has too many lines or bytes\n",
+            Status::NoMemory => b"dice11: out of memory\n",
         }
     }
 }

@@ -8,7 +8,7 @@ use Rattle.dice_base.specs.Known.{Consumes-trans}
 use Rattle.dice_base.specs.Lines.{NoFeed}
 use Rattle.dice_base.specs.LinesLaws.{NoFeed-push}
 use Rattle.script_lines.specs.Front.{kept_bytes, longest_text, strip, SameFront}
-use Rattle.script_lines.specs.Took.{WholeLine, PastRoom}
+use Rattle.script_lines.specs.Took.{WholeLine, PastRoom, Broken}
 
 -- a line that was read so far
 pub record SoFar (kept : List ℕ) (room room_now : ℕ) (left left_now : Option (List ℕ)) : Type 0 where
@@ -26,7 +26,7 @@ cut-before n xs b = elim (cases_lt n (length xs)) [
 ]
 
 pub past-room : (kept : List ℕ) (room room_now : ℕ) (l m k : Option (List ℕ)) (b : ℕ) → SoFar kept room room_now l m → room_now ≡ 0
-    → Consumes m k (b ∷ []) → PastRoom room l k
+    → Consumes m k (b ∷ []) → PastRoom (record { kept = kept; room = room; room_then = room_now; left = l; left_then = k })
 past-room kept room room_now l m k b s none took = record {
   line = s.line;
   plain = s.plain;
@@ -36,7 +36,7 @@ past-room kept room room_now l m k b s none took = record {
 }
 
 pub whole-line : (kept : List ℕ) (room room_now : ℕ) (l m k : Option (List ℕ)) (b : ℕ) → SoFar kept room room_now l m → room_now ≢ 0 → b ≡ 10
-    → Consumes m k (b ∷ []) → WholeLine kept room (room_now - 1) l k
+    → Consumes m k (b ∷ []) → WholeLine (record { kept = kept; room = room; room_then = room_now - 1; left = l; left_then = k })
 whole-line kept room room_now l m k b s some feed took = record {
   line = s.line;
   front = s.front;
@@ -56,6 +56,15 @@ byte-more kept kept_now room room_now l m k b s some other took is = record {
   plain = NoFeed-push s.line b s.plain other;
   took = Consumes-trans l m k _ _ s.took took;
   space = omega (arith, s.space, some, length-append s.line (b ∷ []));
+}
+
+-- a byte that there was no memory for
+pub byte-lost : (kept kept_now : List ℕ) (room room_now room_then : ℕ) (l m k : Option (List ℕ)) (b : ℕ) → SoFar kept room room_now l m → b ≢ 10
+    → Consumes m k (b ∷ []) → Broken (record { kept = kept_now; room = room; room_then = room_then; left = l; left_then = k })
+byte-lost kept kept_now room room_now room_then l m k b s other took = record {
+  line = s.line ++ b ∷ [];
+  plain = NoFeed-push s.line b s.plain other;
+  took = Consumes-trans l m k _ _ s.took took;
 }
 
 -- a carriage return behind so many bytes tells nothing of them

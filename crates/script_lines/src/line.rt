@@ -1,5 +1,5 @@
 //! The next line of a source.
-ghost use Rattle.std.specs.Prelude.{◌≡◌, ◌≤◌, ◌++◌, ℕ, List, [], ◌∷◌, length, take, IfOk, OnOk, IsErrOf, MatchOption, MatchResult};
+ghost use Rattle.std.specs.Prelude.{◌≡◌, ◌≤◌, ◌++◌, ℕ, List, [], ◌∷◌, length, take, IfOk, OnOk, IsErr, IsErrOf, MatchOption, MatchResult};
 ghost use Rattle.std.specs.Io.KnownBytes.{Keeps, Consumes, IsAtEnd};
 ghost use Rattle.dice_base.specs.Causes.{HasCause, Rose};
 ghost use Rattle.script_lines.specs.Front.{kept_bytes, strip, SameFront};
@@ -85,9 +85,20 @@ pub fn next_line<S: Source>(
     line: &mut Vec<u8>,
     room: &mut u32,
 ) -> Result<Got, LineFault>
-    ensures got { IfOk result (λ got. Took got line.new.items room.old room.new
-        (S.left source.old) (S.left source.new)) }
-    ensures part { IsErrOf result LineFault.SourceFailed → Broken (S.left source.old) (S.left source.new) }
+    ensures got { IfOk result (λ got. Took got (record {
+      kept = line.new.items;
+      room = room.old;
+      room_then = room.new;
+      left = S.left source.old;
+      left_then = S.left source.new;
+    })) }
+    ensures part { IsErr result → Broken (record {
+      kept = line.new.items;
+      room = room.old;
+      room_then = room.new;
+      left = S.left source.old;
+      left_then = S.left source.new;
+    }) }
     ensures later { S.faults source.old ≤ S.faults source.new }
     ensures same { OnOk result (S.faults source.new ≡ S.faults source.old) }
     ensures cause { IsErrOf result LineFault.SourceFailed → Rose (S.faults source.old) (S.faults source.new) }

@@ -8,7 +8,7 @@ pub returns-in_err-answer_line-in-Whole-clause-turns : goal.returns-in_err-answe
 returns-in_err-answer_line-in-Whole-clause-turns g c = λ w lives.
     let r = rw c.in-Whole.is at c.in_ok-next_line.ensures.got in
     let p = err_from_is_err_and c.from_residual-in_err-answer_line-in-Whole.result c.from_residual-in_err-answer_line-in-Whole.ensures.1 in
-    rw (p.1, p.2) (turn-cut c.in_err-answer_line-in-Whole.field-0.0 _ w _ _ _ _ _ _ _ _ r (c.in_err-answer_line-in-Whole.ensures.answers w _ lives (c.stripped.ensures.front r.line (c.deref.ensures.value ∙ r.front))))
+    rw (p.1, p.2) (turn-cut c.in_err-answer_line-in-Whole.field-0.0 w _ _ _ _ _ r (c.in_err-answer_line-in-Whole.ensures.answers w _ lives (c.stripped.ensures.front r.line (c.deref.ensures.value ∙ r.front))))
 
 pub returns-in_err-answer_line-in-Whole-clause-read : goal.returns-in_err-answer_line-in-Whole-clause-read
 returns-in_err-answer_line-in-Whole-clause-read g c = λ e.
@@ -19,7 +19,7 @@ pub returns-in_err-answer_last-in-Last-clause-turns : goal.returns-in_err-answer
 returns-in_err-answer_last-in-Last-clause-turns g c = λ w lives.
     let r = rw c.in-Last.is at c.in_ok-next_line.ensures.got in
     let p = err_from_is_err_and c.from_residual-in_err-answer_last-in-Last.result c.from_residual-in_err-answer_last-in-Last.ensures.1 in
-    rw (p.1, p.2) (turn-cut-last c.in_err-answer_last-in-Last.field-0.0 _ w _ _ _ _ _ _ _ _ r (c.in_err-answer_last-in-Last.ensures.answers w r.line lives (c.deref-in-Last.ensures.value ∙ r.front)))
+    rw (p.1, p.2) (turn-cut-last c.in_err-answer_last-in-Last.field-0.0 w _ _ _ _ _ r (c.in_err-answer_last-in-Last.ensures.answers w r.line lives (c.deref-in-Last.ensures.value ∙ r.front)))
 
 pub returns-in_err-answer_last-in-Last-clause-read : goal.returns-in_err-answer_last-in-Last-clause-read
 returns-in_err-answer_last-in-Last-clause-read g c = λ e.
@@ -30,15 +30,15 @@ pub returns-then-is_over-clause-turns : goal.returns-then-is_over-clause-turns
 returns-then-is_over-clause-turns g c = λ w lives.
     let r = rw c.in-Whole.is at c.in_ok-next_line.ensures.got in
     let a = c.in_ok-answer_line-in-Whole.ensures.answers w _ lives (c.stripped.ensures.front r.line (c.deref.ensures.value ∙ r.front)) in
-    (record { read = r; answered = a }, rw c.if-is_over.true at (c.is_over.ensures _ _ a.lives))
+    (r, a, rw c.if-is_over.true at (c.is_over.ensures _ _ a.lives))
 
 pub returns-else-is_over-clause-turns : goal.returns-else-is_over-clause-turns
 returns-else-is_over-clause-turns g c = λ w lives.
     let r = rw c.in-Whole.is at c.in_ok-next_line.ensures.got in
     let a = c.in_ok-answer_line-in-Whole.ensures.answers w _ lives (c.stripped.ensures.front r.line (c.deref.ensures.value ∙ r.front)) in
-    (record { read = r; answered = a }, rw c.if-is_over.false at (c.is_over.ensures _ _ a.lives))
+    (r, a, rw c.if-is_over.false at (c.is_over.ensures _ _ a.lives))
 
 pub returns-in_ok-answer_last-in-Last-clause-turns : goal.returns-in_ok-answer_last-in-Last-clause-turns
 returns-in_ok-answer_last-in-Last-clause-turns g c = λ w lives.
     let r = rw c.in-Last.is at c.in_ok-next_line.ensures.got in
-    record { read = r; answered = c.in_ok-answer_last-in-Last.ensures.answers w r.line lives (c.deref-in-Last.ensures.value ∙ r.front) }
+    (r, c.in_ok-answer_last-in-Last.ensures.answers w r.line lives (c.deref-in-Last.ensures.value ∙ r.front))
