@@ -10,7 +10,8 @@ use Rattle.script_lines.specs.Took.{LineRead, WholeLine, LastLine, PastRoom, Bro
 use Rattle.pdp11_machine.specs.State.{MachineState}
 use Rattle.dice_session.specs.declared.session.Session.{Session}
 use Rattle.dice_session.specs.World.{World, Over, Command, ReadsAll, empty_world, reply_of, world_after, missing_end, transcript_of, last_world}
-use Rattle.dice_session.specs.Lives.{Lives, Stands}
+use Rattle.dice_session.specs.SessionOf.{IsSessionOf}
+use Rattle.dice_session.specs.Simulates.{Simulates}
 use Rattle.dice_program.specs.declared.serve.Fault.{Fault}
 use Rattle.dice_program.specs.declared.serve.Fault.TheVariants.{ReadFault, WriteFault, NoMemory}
 use Rattle.dice_program.specs.Ends.{Input, Output}
@@ -75,8 +76,8 @@ short-start left held i i' o o' =
 pub done-quit : (session session_now : Session) (machine machine_now : MachineState) (turns : ℕ) (left held held_mid held_now : Option (List ℕ)) (n : LineRead) (i i' o o' : ℕ)
     → (s : Serving session machine turns n.room left n.left held held_mid) → (r : WholeLine n)
     → (t : Answered (world_after empty_world s.commands) (strip r.line) session_now machine_now held_mid held_now)
-    → (reply_of (world_after empty_world s.commands) t.command).0.mode ≡ Over → turns + 1 ≤ MAX_LINES - 1
-    → (stands : (w : World) → Lives w session_now machine_now → Stands w machine_now)
+    → (reply_of (world_after empty_world s.commands) t.command).world.mode ≡ Over → turns + 1 ≤ MAX_LINES - 1
+    → (stands : (w : World) → IsSessionOf w session_now machine_now → Simulates w machine_now)
     → IsDone (record { left = left; left_then = n.left_then; faults = i; faults_then = i' }) (record { held = held; held_then = held_now; faults = o; faults_then = o' }) machine_now
 done-quit session session_now machine machine_now turns left held held_mid held_now n i i' o o' s r t over few stands =
     let c = t.command in
@@ -104,7 +105,7 @@ done-quit session session_now machine machine_now turns left held held_mid held_
         ended = subst (λ xs. ReadsAll (last_world all) xs []) (sym (over-missing (last_world all).mode (ap (λ w. w.mode) last ∙ then))) tt;
       };
       wrote = subst (Appends held held_now) (sym (told ∙ replies-push empty_world s.commands c)) (Appends-trans held held_mid held_now _ _ s.wrote t.wrote);
-      stands = subst (λ w. Stands w machine_now) (sym (last ∙ after-push empty_world s.commands c)) (stands _ t.lives);
+      stands = subst (λ w. Simulates w machine_now) (sym (last ∙ after-push empty_world s.commands c)) (stands _ t.lives);
       ended = inl (record {
         before = s.commands;
         quit = c;
@@ -122,7 +123,7 @@ pub record AtClose (session : Session) (machine : MachineState) (left left_now h
   pub read : ReadsAll empty_world (acted part.script) commands
   pub all : lines_in part.taken ≡ acted part.script ++ []
   pub wrote : Appends held held_now (transcript_of commands)
-  pub lives : Lives (last_world commands) session machine
+  pub lives : IsSessionOf (last_world commands) session machine
 
 last-short : (lines : List (List ℕ)) (line : List ℕ) (room more : ℕ) → NoFeeds lines → MAX_BYTES ≡ length (joined lines) + room
     → MAX_LINES - 1 ≡ length lines + more → NoFeed line → length line ≤ room → length (some_line line) ≤ more
@@ -176,26 +177,26 @@ at-close session session_now machine machine_now turns left held held_mid held_n
       read = subst (λ xs. ReadsAll empty_world xs cs) (sym acts) (reads-append empty_world (map strip s.lines) (some_line r.line) s.commands a.commands s.read a.reads);
       all = lines-joined s.lines r.line s.plain ∙ ap (λ xs. map strip s.lines ++ xs) (lines-plain r.line r.plain) ∙ sym acts ∙ sym (append-nil _);
       wrote = subst (Appends held held_now) (sym (replies-append empty_world s.commands a.commands)) (Appends-trans held held_mid held_now _ _ s.wrote a.wrote);
-      lives = subst (λ w. Lives w session_now machine_now) (sym (after-append empty_world s.commands a.commands)) a.lives;
+      lives = subst (λ w. IsSessionOf w session_now machine_now) (sym (after-append empty_world s.commands a.commands)) a.lives;
     }
 
 -- the text that was open is ended
 pub closed-done : (session session_now : Session) (machine machine_now : MachineState) (left now held held_mid held_now : Option (List ℕ)) (i i' o o' : ℕ)
     → (e : AtClose session machine left now held held_mid) → AnsweredAll (last_world e.commands) (missing_end (last_world e.commands).mode) session_now machine_now held_mid held_now
-    → (stands : (w : World) → Lives w session_now machine_now → Stands w machine_now)
+    → (stands : (w : World) → IsSessionOf w session_now machine_now → Simulates w machine_now)
     → IsDone (record { left = left; left_then = now; faults = i; faults_then = i' }) (record { held = held; held_then = held_now; faults = o; faults_then = o' }) machine_now
 closed-done session session_now machine machine_now left now held held_mid held_now i i' o o' e a stands = record {
   part = e.part;
   commands = e.commands ++ a.commands;
   read = record { front = e.commands; last = a.commands; all = refl; read = e.read; ended = a.reads };
   wrote = subst (Appends held held_now) (sym (replies-append empty_world e.commands a.commands)) (Appends-trans held held_mid held_now _ _ e.wrote a.wrote);
-  stands = subst (λ w. Stands w machine_now) (sym (after-append empty_world e.commands a.commands)) (stands _ a.lives);
+  stands = subst (λ w. Simulates w machine_now) (sym (after-append empty_world e.commands a.commands)) (stands _ a.lives);
   ended = inr e.whole;
 }
 
 pub closed-fails : (fault : Fault) (session session_now : Session) (machine machine_now : MachineState) (left now held held_mid held_now : Option (List ℕ)) (i i' o o' : ℕ)
     → (e : AtClose session machine left now held held_mid) → AnswersSome (Err fault) (last_world e.commands) (missing_end (last_world e.commands).mode) session_now machine_now held_mid held_now
-    → (stands : (w : World) → Lives w session_now machine_now → Stands w machine_now)
+    → (stands : (w : World) → IsSessionOf w session_now machine_now → Simulates w machine_now)
     → Serves (Err fault) (record { left = left; left_then = now; faults = i; faults_then = i' }) (record { held = held; held_then = held_now; faults = o; faults_then = o' }) machine_now
 closed-fails ReadFault session session_now machine machine_now left now held held_mid held_now i i' o o' e a stands = absurd a
 closed-fails WriteFault session session_now machine machine_now left now held held_mid held_now i i' o o' e a stands =
@@ -215,7 +216,7 @@ closed-fails WriteFault session session_now machine machine_now left now held he
         );
       };
       wrote = (cut.wrote.0, cut.wrote.1, Appends-trans held held_mid held_now _ _ e.wrote cut.wrote.2);
-      stands = subst (λ w. Stands w machine_now) (sym (after-push empty_world e.commands cut.command)) (stands _ cut.lives);
+      stands = subst (λ w. Simulates w machine_now) (sym (after-push empty_world e.commands cut.command)) (stands _ cut.lives);
       stopped = inr e.whole;
     }
 closed-fails NoMemory session session_now machine machine_now left now held held_mid held_now i i' o o' e a stands = record {
@@ -235,7 +236,7 @@ closed-fails NoMemory session session_now machine machine_now left now held held
 pub cut-line : (session session_now : Session) (machine machine_now : MachineState) (turns : ℕ) (left held held_mid held_now : Option (List ℕ)) (n : LineRead) (i i' o o' : ℕ)
     → (s : Serving session machine turns n.room left n.left held held_mid) → (r : WholeLine n)
     → (t : CutShort (world_after empty_world s.commands) (strip r.line) session_now machine_now held_mid held_now)
-    → turns + 1 ≤ MAX_LINES - 1 → (stands : (w : World) → Lives w session_now machine_now → Stands w machine_now)
+    → turns + 1 ≤ MAX_LINES - 1 → (stands : (w : World) → IsSessionOf w session_now machine_now → Simulates w machine_now)
     → IsCut (record { left = left; left_then = n.left_then; faults = i; faults_then = i' }) (record { held = held; held_then = held_now; faults = o; faults_then = o' }) machine_now
 cut-line session session_now machine machine_now turns left held held_mid held_now n i i' o o' s r t few stands =
     let c = t.command in
@@ -248,7 +249,7 @@ cut-line session session_now machine machine_now turns left held held_mid held_n
       last = c;
       begins = begins ls (s.commands ++ c ∷ []) part.rest n.room_then (MAX_LINES - 1 - (turns + 1)) longer.plain longer.space (omega (arith, length-append s.lines (r.line ∷ []), s.count, few)) longer.read;
       wrote = (t.wrote.0, t.wrote.1, Appends-trans held held_mid held_now _ _ s.wrote t.wrote.2);
-      stands = subst (λ w. Stands w machine_now) (sym (after-push empty_world s.commands c)) (stands _ t.lives);
+      stands = subst (λ w. Simulates w machine_now) (sym (after-push empty_world s.commands c)) (stands _ t.lives);
       stopped = inl (takes-lines ls (s.commands ++ c ∷ []) longer.plain longer.read);
     }
 
@@ -256,7 +257,7 @@ pub cut-end : (session session_now : Session) (machine machine_now : MachineStat
     → (s : Serving session machine turns n.room left n.left held held_mid) → (r : LastLine n)
     → (last : List ℕ) → some_line r.line ≡ last ∷ []
     → (t : CutShort (world_after empty_world s.commands) last session_now machine_now held_mid held_now)
-    → turns + length (some_line r.line) ≤ MAX_LINES - 1 → (stands : (w : World) → Lives w session_now machine_now → Stands w machine_now)
+    → turns + length (some_line r.line) ≤ MAX_LINES - 1 → (stands : (w : World) → IsSessionOf w session_now machine_now → Simulates w machine_now)
     → IsCut (record { left = left; left_then = n.left_then; faults = i; faults_then = i' }) (record { held = held; held_then = held_now; faults = o; faults_then = o' }) machine_now
 cut-end session session_now machine machine_now turns left held held_mid held_now n i i' o o' s r last is t few stands =
     let c = t.command in
@@ -278,13 +279,13 @@ cut-end session session_now machine machine_now turns left held held_mid held_no
         read = inl (reads-push empty_world (map strip s.lines) last s.commands c s.read t.reads);
       };
       wrote = (t.wrote.0, t.wrote.1, Appends-trans held held_mid held_now _ _ s.wrote t.wrote.2);
-      stands = subst (λ w. Stands w machine_now) (sym (after-push empty_world s.commands c)) (stands _ t.lives);
+      stands = subst (λ w. Simulates w machine_now) (sym (after-push empty_world s.commands c)) (stands _ t.lives);
       stopped = inr (record { all = refl; ended = r.ended; fits = last-short s.lines r.line n.room more s.plain s.space count r.plain fits less });
     }
 
 pub broken : (session session_now : Session) (machine machine_now : MachineState) (turns : ℕ) (left held held_mid held_now : Option (List ℕ)) (n : LineRead) (i i' o o' : ℕ)
     → (s : Serving session machine turns n.room left n.left held held_mid) → Broken n → Unanswered (world_after empty_world s.commands) session_now machine_now held_mid held_now
-    → (stands : (w : World) → Lives w session_now machine_now → Stands w machine_now)
+    → (stands : (w : World) → IsSessionOf w session_now machine_now → Simulates w machine_now)
     → IsBroken (record { left = left; left_then = n.left_then; faults = i; faults_then = i' }) (record { held = held; held_then = held_now; faults = o; faults_then = o' }) machine_now
 broken session session_now machine machine_now turns left held held_mid held_now n i i' o o' s b u stands =
     let whole : ended_lines (joined s.lines ++ b.line) ≡ map strip s.lines =
@@ -303,7 +304,7 @@ stops : (session session_now : Session) (machine machine_now : MachineState) (tu
     → (s : Serving session machine turns room left mid held held_mid) → (x : List ℕ) → Consumes mid now x
     → ((rest : List ℕ) → acted (joined s.lines ++ (x ++ rest)) ≡ map strip s.lines)
     → Unanswered (world_after empty_world s.commands) session_now machine_now held_mid held_now
-    → (stands : (w : World) → Lives w session_now machine_now → Stands w machine_now)
+    → (stands : (w : World) → IsSessionOf w session_now machine_now → Simulates w machine_now)
     → IsTooLong (joined s.lines ++ x) → length (joined s.lines ++ x) ≤ MAX_BYTES + 1 → length (lines_in x) ≤ 1 → turns ≤ MAX_LINES - 1
     → IsTooMany (record { left = left; left_then = now; faults = i; faults_then = i' }) (record { held = held; held_then = held_now; faults = o; faults_then = o' }) machine_now
 stops session session_now machine machine_now turns room left mid now held held_mid held_now i i' o o' s x took acts u stands long bytes one few =
@@ -325,7 +326,7 @@ stops session session_now machine machine_now turns room left mid now held held_
 
 pub too-far : (session session_now : Session) (machine machine_now : MachineState) (turns : ℕ) (left held held_mid held_now : Option (List ℕ)) (n : LineRead) (i i' o o' : ℕ)
     → (s : Serving session machine turns n.room left n.left held held_mid) → PastRoom n → turns ≤ MAX_LINES - 1 → Unanswered (world_after empty_world s.commands) session_now machine_now held_mid held_now
-    → (stands : (w : World) → Lives w session_now machine_now → Stands w machine_now)
+    → (stands : (w : World) → IsSessionOf w session_now machine_now → Simulates w machine_now)
     → IsTooMany (record { left = left; left_then = n.left_then; faults = i; faults_then = i' }) (record { held = held; held_then = held_now; faults = o; faults_then = o' }) machine_now
 too-far session session_now machine machine_now turns left held held_mid held_now n i i' o o' s p few u stands =
     let more = MAX_LINES - 1 - turns in
@@ -351,7 +352,7 @@ full lines x room plain space count =
 
 pub too-many : (session session_now : Session) (machine machine_now : MachineState) (turns : ℕ) (left held held_mid held_now : Option (List ℕ)) (n : LineRead) (i i' o o' : ℕ)
     → (s : Serving session machine turns n.room left n.left held held_mid) → IsMore n → turns ≡ MAX_LINES - 1 → Unanswered (world_after empty_world s.commands) session_now machine_now held_mid held_now
-    → (stands : (w : World) → Lives w session_now machine_now → Stands w machine_now)
+    → (stands : (w : World) → IsSessionOf w session_now machine_now → Simulates w machine_now)
     → IsTooMany (record { left = left; left_then = n.left_then; faults = i; faults_then = i' }) (record { held = held; held_then = held_now; faults = o; faults_then = o' }) machine_now
 too-many session session_now machine machine_now turns left held held_mid held_now n i i' o o' s more few u stands =
     let count : length s.lines ≡ MAX_LINES - 1 = s.count ∙ few in

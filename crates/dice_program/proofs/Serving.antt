@@ -11,7 +11,7 @@ use Rattle.script_lines.specs.Took.{LineRead, WholeLine}
 use Rattle.pdp11_machine.specs.State.{MachineState}
 use Rattle.dice_session.specs.declared.session.Session.{Session}
 use Rattle.dice_session.specs.World.{Over, Command, ReadsAll, Reads, empty_world, reply_of, replies_from, world_after}
-use Rattle.dice_session.specs.Lives.{Lives}
+use Rattle.dice_session.specs.SessionOf.{IsSessionOf}
 use Rattle.dice_program.specs.Script.{MAX_BYTES, MAX_LINES, acted_within, acted}
 use Rattle.dice_program.specs.Turns.{Answered}
 use Rattle.dice_program.specs.Taking.{IsScript, ScriptPart, TakesOnly}
@@ -28,13 +28,13 @@ pub record Serving (session : Session) (machine : MachineState) (turns room : �
   pub took : Consumes left left_now (joined lines)
   pub read : ReadsAll empty_world (map strip lines) commands
   pub wrote : Appends held held_now (replies_from empty_world commands)
-  pub lives : Lives (world_after empty_world commands) session machine
+  pub lives : IsSessionOf (world_after empty_world commands) session machine
   pub going : (world_after empty_world commands).mode ≡ Over → ⊥
 
 pub empty-going : empty_world.mode ≡ Over → ⊥
 empty-going e = absurd cc
 
-pub serving-start : (session : Session) (machine : MachineState) (left held : Option (List ℕ)) → Lives empty_world session machine → Serving session machine 0 MAX_BYTES left left held held
+pub serving-start : (session : Session) (machine : MachineState) (left held : Option (List ℕ)) → IsSessionOf empty_world session machine → Serving session machine 0 MAX_BYTES left left held held
 serving-start session machine left held lives = record {
   lines = [];
   commands = [];
@@ -72,7 +72,7 @@ longer-lines session machine turns left held held_now n s r c reads =
 pub serving-turn : (session session_now : Session) (machine machine_now : MachineState) (turns : ℕ) (left held held_mid held_now : Option (List ℕ)) (n : LineRead)
     → (s : Serving session machine turns n.room left n.left held held_mid) → (r : WholeLine n)
     → (t : Answered (world_after empty_world s.commands) (strip r.line) session_now machine_now held_mid held_now)
-    → ((reply_of (world_after empty_world s.commands) t.command).0.mode ≡ Over → ⊥)
+    → ((reply_of (world_after empty_world s.commands) t.command).world.mode ≡ Over → ⊥)
     → Serving session_now machine_now (turns + 1) n.room_then left n.left_then held held_now
 serving-turn session session_now machine machine_now turns left held held_mid held_now n s r t going =
     let c = t.command in
@@ -86,7 +86,7 @@ serving-turn session session_now machine machine_now turns left held held_mid he
       took = longer.took;
       read = longer.read;
       wrote = subst (Appends held held_now) (sym (replies-push empty_world s.commands c)) (Appends-trans held held_mid held_now _ _ s.wrote t.wrote);
-      lives = subst (λ w. Lives w session_now machine_now) (sym (after-push empty_world s.commands c)) t.lives;
+      lives = subst (λ w. IsSessionOf w session_now machine_now) (sym (after-push empty_world s.commands c)) t.lives;
       going = λ over. going (ap (λ w. w.mode) (sym (after-push empty_world s.commands c)) ∙ over);
     }
 

@@ -15,28 +15,28 @@ use Rattle.script_lines.specs.declared.line.LineFault.TheVariants as line
 use Rattle.pdp11_machine.specs.State.{MachineState}
 use Rattle.dice_session.specs.declared.session.Session.{Session}
 use Rattle.dice_session.specs.World.{World, reply_of}
-use Rattle.dice_session.specs.Lives.{Lives, Replied}
+use Rattle.dice_session.specs.SessionOf.{IsSessionOf, Replied}
 use Rattle.dice_program.specs.declared.serve.Fault.{Fault}
 use Rattle.dice_program.specs.declared.serve.Fault.TheVariants.{ReadFault, WriteFault, NoMemory}
 use Rattle.dice_program.specs.Turns.{Answered, CutShort, Answers, AnsweredAll, AnswersSome, Turns, IsMore, IsNoMore, fault_of}
 use Rattle.dice_program.proofs.Pieces.{few-plain, few-whole}
 
-pub answered : (w : World) (l before after written : List ℕ) (s : Session) (m : MachineState) (h k : Option (List ℕ)) → Replied w l before after s m → before ≡ [] → written ≡ after
+pub answered : (w : World) (l before after written : List ℕ) (n : MachineState) (s : Session) (m : MachineState) (h k : Option (List ℕ)) → Replied w l before after n s m → before ≡ [] → written ≡ after
     → Appends h k written → Answered w l s m h k
-answered w l before after written s m h k r empty same wrote = record {
+answered w l before after written n s m h k r empty same wrote = record {
   command = r.command;
   reads = r.reads;
-  wrote = subst (Appends h k) (same ∙ r.told ∙ ap (λ b. b ++ (reply_of w r.command).1) empty) wrote;
-  lives = r.lives;
+  wrote = subst (Appends h k) (same ∙ r.told ∙ ap (λ b. b ++ (reply_of w r.command).text) empty) wrote;
+  lives = r.of_world;
 }
 
-pub cut_short : (w : World) (l before after written : List ℕ) (s : Session) (m : MachineState) (h k : Option (List ℕ)) → Replied w l before after s m → before ≡ [] → written ≡ after
+pub cut_short : (w : World) (l before after written : List ℕ) (n : MachineState) (s : Session) (m : MachineState) (h k : Option (List ℕ)) → Replied w l before after n s m → before ≡ [] → written ≡ after
     → WritesPart h k written → CutShort w l s m h k
-cut_short w l before after written s m h k r empty same wrote = record {
+cut_short w l before after written n s m h k r empty same wrote = record {
   command = r.command;
   reads = r.reads;
-  wrote = subst (WritesPart h k) (same ∙ r.told ∙ ap (λ b. b ++ (reply_of w r.command).1) empty) wrote;
-  lives = r.lives;
+  wrote = subst (WritesPart h k) (same ∙ r.told ∙ ap (λ b. b ++ (reply_of w r.command).text) empty) wrote;
+  lives = r.of_world;
 }
 
 -- one line is a list of lines
@@ -44,11 +44,11 @@ one-answered : (w : World) (l : List ℕ) (s : Session) (m : MachineState) (h k 
 one-answered w l s m h k a = record {
   commands = a.command ∷ [];
   reads = (a.reads, tt);
-  wrote = subst (Appends h k) (sym (append-nil (reply_of w a.command).1)) a.wrote;
+  wrote = subst (Appends h k) (sym (append-nil (reply_of w a.command).text)) a.wrote;
   lives = a.lives;
 }
 
-pub none-answered : (w : World) (s : Session) (m : MachineState) (h : Option (List ℕ)) → Lives w s m → AnsweredAll w [] s m h h
+pub none-answered : (w : World) (s : Session) (m : MachineState) (h : Option (List ℕ)) → IsSessionOf w s m → AnsweredAll w [] s m h h
 none-answered w s m h lives = record {
   commands = [];
   reads = tt;
@@ -108,7 +108,7 @@ keeps-refl None = tt
 keeps-refl (Some x) = refl
 
 -- a line that was not read whole
-pub turn-unread : (e : LineFault) (w : World) (s : Session) (m : MachineState) (n : LineRead) (h : Option (List ℕ)) → Broken n → Lives w s m
+pub turn-unread : (e : LineFault) (w : World) (s : Session) (m : MachineState) (n : LineRead) (h : Option (List ℕ)) → Broken n → IsSessionOf w s m
     → Turns (Err (fault_of e)) w s m n h h
 turn-unread SourceFailed w s m n h b lives = (b, record { kept = keeps-refl h; lives = lives })
 turn-unread line.NoMemory w s m n h b lives = (record { taken = b.line; took = b.took; one = few-plain b.line b.plain }, keeps-refl h)

@@ -24,12 +24,12 @@ pub turn-fails : (e : Fault) (session session_now : Session) (machine machine_no
     → Turns (Err e) (world_after empty_world s.commands) session_now machine_now n held_mid held_now
     → Serves (Err e) (record { left = left; left_then = n.left_then; faults = i; faults_then = i' }) (record { held = held; held_then = held_now; faults = o; faults_then = o' }) machine_now
 turn-fails ReadFault session session_now machine machine_now turns left held held_mid held_now n i i' o o' s few t =
-    broken session session_now machine machine_now turns left held held_mid held_now n i i' o o' s t.0 t.1 (λ w lives. lives.stands)
+    broken session session_now machine machine_now turns left held held_mid held_now n i i' o o' s t.0 t.1 (λ w lives. lives.simulates)
 turn-fails WriteFault session session_now machine machine_now turns left held held_mid held_now n i i' o o' s few t = elim t [
-  | inl cut ↦ cut-line session session_now machine machine_now turns left held held_mid held_now n i i' o o' s cut.0 cut.1 few (λ w lives. lives.stands)
+  | inl cut ↦ cut-line session session_now machine machine_now turns left held held_mid held_now n i i' o o' s cut.0 cut.1 few (λ w lives. lives.simulates)
   | inr cut ↦
       let short = cut.1 in
-      cut-end session session_now machine machine_now turns left held held_mid held_now n i i' o o' s cut.0 short.0 short.1 short.2 (omega (arith, some-few cut.0.line, few)) (λ w lives. lives.stands)
+      cut-end session session_now machine machine_now turns left held held_mid held_now n i i' o o' s cut.0 short.0 short.1 short.2 (omega (arith, some-few cut.0.line, few)) (λ w lives. lives.simulates)
 ]
 turn-fails NoMemory session session_now machine machine_now turns left held held_mid held_now n i i' o o' s few t =
     short session machine turns n.room left n.left n.left_then held held_mid held_now i i' o o' s (omega (arith, few)) t.0.taken t.0.took t.0.one t.1
@@ -50,7 +50,7 @@ pub final-fails : (e : LineFault) (session : Session) (machine : MachineState) (
     → (s : Serving session machine turns n.room left n.left held held_mid) → turns ≡ MAX_LINES - 1 → Finals (Err e) n
     → Serves (Err (fault_of e)) (record { left = left; left_then = n.left_then; faults = i; faults_then = i' }) (record { held = held; held_then = held_mid; faults = o; faults_then = o' }) machine
 final-fails SourceFailed session machine turns left held held_mid n i i' o o' s few t =
-    broken session session machine machine turns left held held_mid held_mid n i i' o o' s t (unanswered session machine turns n.room left n.left held held_mid s) (λ w lives. lives.stands)
+    broken session session machine machine turns left held held_mid held_mid n i i' o o' s t (unanswered session machine turns n.room left n.left held held_mid s) (λ w lives. lives.simulates)
 final-fails line.NoMemory session machine turns left held held_mid n i i' o o' s few t =
     short session machine turns n.room left n.left n.left_then held held_mid held_mid i i' o o' s (omega (arith, few)) t.line t.took (few-plain t.line t.plain) (keeps-refl held_mid)
 

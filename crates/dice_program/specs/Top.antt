@@ -5,8 +5,8 @@ use Rattle.std.specs.Io.KnownBytes.{Appends, Consumes}
 use Rattle.dice_base.specs.Causes.{Rose}
 use Rattle.dice_base.specs.Part.{WritesPart}
 use Rattle.pdp11_machine.specs.State.{MachineState}
-use Rattle.dice_session.specs.World.{line, Command, empty_world, reply_of, ReadsAll, AreCommands, transcript_of, last_world}
-use Rattle.dice_session.specs.Lives.{Stands}
+use Rattle.dice_session.specs.World.{reply_line, Command, empty_world, reply_of, ReadsAll, AreCommands, transcript_of, last_world}
+use Rattle.dice_session.specs.Simulates.{Simulates}
 use Rattle.dice_program.specs.Ends.{Input, Output}
 use Rattle.dice_program.specs.Script.{MAX_BYTES, MAX_LINES, ended_lines, lines_in, acted, IsTooLong}
 use Rattle.dice_program.specs.Status.{number_of, message_of}
@@ -24,7 +24,7 @@ pub record IsDone (input : Input) (output : Output) (machine : MachineState) : T
   pub commands : List Command
   pub read : AreCommands (acted part.script) commands
   pub wrote : Appends output.held output.held_then (transcript_of commands)
-  pub stands : Stands (last_world commands) machine
+  pub stands : Simulates (last_world commands) machine
   pub ended : TakesToQuit part.taken ⊎ TakesAll part
 
 -- what was taken is too long, by one byte or by one line
@@ -39,7 +39,7 @@ pub record IsTooMany (input : Input) (output : Output) (machine : MachineState) 
   pub commands : List Command
   pub read : ReadsAll empty_world (acted part.script) commands
   pub wrote : Appends output.held output.held_then (transcript_of commands)
-  pub stands : Stands (last_world commands) machine
+  pub stands : Simulates (last_world commands) machine
   pub long : IsJustTooLong part.taken
   pub going : ¬ (IsQuit commands)
 
@@ -50,7 +50,7 @@ pub record IsBroken (input : Input) (output : Output) (machine : MachineState) :
   pub commands : List Command
   pub read : ReadsAll empty_world (ended_lines taken) commands
   pub wrote : Appends output.held output.held_then (transcript_of commands)
-  pub stands : Stands (last_world commands) machine
+  pub stands : Simulates (last_world commands) machine
 
 -- a front of a text, and not all of it, was written behind another
 abbrev pub AppendsPart : Output → List ℕ → List ℕ → Type 0
@@ -64,8 +64,8 @@ pub record IsCut (input : Input) (output : Output) (machine : MachineState) : Ty
   pub commands : List Command
   pub last : Command
   pub begins : Begins part.script (commands ++ last ∷ [])
-  pub wrote : AppendsPart output (transcript_of commands) (reply_of (last_world commands) last).1
-  pub stands : Stands (last_world (commands ++ last ∷ [])) machine
+  pub wrote : AppendsPart output (transcript_of commands) (reply_of (last_world commands) last).text
+  pub stands : Simulates (last_world (commands ++ last ∷ [])) machine
   pub stopped : TakesOnly part.taken (commands ++ last ∷ []) ⊎ TakesAll part
 
 -- memory was refused behind these commands: all of them are answered, and at most one line more was taken from
@@ -90,7 +90,7 @@ Serves (Err fault.WriteFault) input output machine = IsCut input output machine
 Serves (Err fault.NoMemory) input output machine = IsShort input output
 
 abbrev pub usage_line : List ℕ
-usage_line = line (codes "usage: dice11 [--plan TEXT or --big N]")
+usage_line = reply_line (codes "usage: dice11 [--plan TEXT or --big N]")
 
 -- the usage line was written, and nothing read
 pub record IsUsage (input : Input) (output : Output) (now then : MachineState) : Type 0 where

@@ -12,7 +12,7 @@ use Rattle.script_lines.specs.declared.line.LineFault.TheVariants as line
 use Rattle.pdp11_machine.specs.State.{MachineState}
 use Rattle.dice_session.specs.declared.session.Session.{Session}
 use Rattle.dice_session.specs.World.{World, Command, Reads, ReadsAll, reply_of, replies_from, world_after}
-use Rattle.dice_session.specs.Lives.{Lives, IsOver}
+use Rattle.dice_session.specs.SessionOf.{IsSessionOf, IsOver}
 use Rattle.dice_program.specs.Script.{lines_in}
 use Rattle.dice_program.specs.declared.serve.Turn.{Turn}
 use Rattle.dice_program.specs.declared.serve.Turn.TheVariants.{On, Quit, Last, TooFar}
@@ -25,15 +25,15 @@ use Rattle.dice_program.specs.declared.serve.Fault.TheVariants.{ReadFault, Write
 pub record Answered (w : World) (line : List ℕ) (session : Session) (machine : MachineState) (held held_then : Option (List ℕ)) : Type 0 where
   pub command : Command
   pub reads : Reads w.mode line command
-  pub wrote : Appends held held_then (reply_of w command).1
-  pub lives : Lives (reply_of w command).0 session machine
+  pub wrote : Appends held held_then (reply_of w command).text
+  pub lives : IsSessionOf (reply_of w command).world session machine
 
 -- a line was obeyed, and not answered whole
 pub record CutShort (w : World) (line : List ℕ) (session : Session) (machine : MachineState) (held held_then : Option (List ℕ)) : Type 0 where
   pub command : Command
   pub reads : Reads w.mode line command
-  pub wrote : WritesPart held held_then (reply_of w command).1
-  pub lives : Lives (reply_of w command).0 session machine
+  pub wrote : WritesPart held held_then (reply_of w command).text
+  pub lives : IsSessionOf (reply_of w command).world session machine
 
 -- what became of a line
 abbrev pub Answers : Result (Unit {0}) Fault → World → List ℕ → Session → MachineState → Option (List ℕ) → Option (List ℕ) → Type 0
@@ -47,7 +47,7 @@ pub record AnsweredAll (w : World) (lines : List (List ℕ)) (session : Session)
   pub commands : List Command
   pub reads : ReadsAll w lines commands
   pub wrote : Appends held held_then (replies_from w commands)
-  pub lives : Lives (world_after w commands) session machine
+  pub lives : IsSessionOf (world_after w commands) session machine
 
 -- what became of a line that may be missing
 abbrev pub AnswersSome : Result (Unit {0}) Fault → World → List (List ℕ) → Session → MachineState → Option (List ℕ) → Option (List ℕ) → Type 0
@@ -59,7 +59,7 @@ AnswersSome (Err NoMemory) w lines session machine held held_then = Keeps held h
 -- nothing was answered
 pub record Unanswered (w : World) (session : Session) (machine : MachineState) (held held_then : Option (List ℕ)) : Type 0 where
   pub kept : Keeps held held_then
-  pub lives : Lives w session machine
+  pub lives : IsSessionOf w session machine
 
 -- no more than one line was taken, whole or in part
 pub record TakesOneLine (read : LineRead) : Type 0 where
@@ -71,10 +71,10 @@ pub record TakesOneLine (read : LineRead) : Type 0 where
 abbrev pub Turns : Result Turn Fault → World → Session → MachineState → LineRead → Option (List ℕ) → Option (List ℕ) → Type 0
 Turns (Ok On) w session machine read held held_then =
     (whole : WholeLine read) × (a : Answered w (strip whole.line) session machine held held_then)
-    × IsOver false (reply_of w a.command).0.mode
+    × IsOver false (reply_of w a.command).world.mode
 Turns (Ok Quit) w session machine read held held_then =
     (whole : WholeLine read) × (a : Answered w (strip whole.line) session machine held held_then)
-    × IsOver true (reply_of w a.command).0.mode
+    × IsOver true (reply_of w a.command).world.mode
 Turns (Ok Last) w session machine read held held_then =
     (end : LastLine read) × AnsweredAll w (some_line end.line) session machine held held_then
 Turns (Ok TooFar) w session machine read held held_then =

@@ -5,7 +5,7 @@ ghost use Rattle.dice_base.specs.Lines.{some_line};
 ghost use Rattle.pdp11_machine.specs.State.{zero_machine};
 ghost use Rattle.script_lines.specs.Front.{kept_bytes, SameFront};
 ghost use Rattle.dice_session.specs.World.{World, missing_end};
-ghost use Rattle.dice_session.specs.Lives.{Lives};
+ghost use Rattle.dice_session.specs.SessionOf.{IsSessionOf};
 ghost use Rattle.dice_program.specs.Turns.{Answers, AnswersSome, Turns, Finals};
 ghost use Rattle.dice_program.specs.Top.{Serves};
 ghost use Rattle.dice_program.specs.declared.serve.Fault.TheVariants.{ReadFault, WriteFault, NoMemory as Refused};
@@ -96,8 +96,8 @@ fn answer_line<K: Sink>(
     machine: &mut Machine,
     sink: &mut K,
 ) -> Result<(), Fault>
-    requires lives { (w : World) × Lives w session.old machine.old }
-    ensures answers { (w : World) (l : List ℕ) → Lives w session.old machine.old → SameFront l line.now
+    requires lives { (w : World) × IsSessionOf w session.old machine.old }
+    ensures answers { (w : World) (l : List ℕ) → IsSessionOf w session.old machine.old → SameFront l line.now
         → Answers result w l session.new machine.new (K.held sink.old) (K.held sink.new) }
     ensures later { K.faults sink.old ≤ K.faults sink.new }
     ensures same { OnOk result (K.faults sink.new ≡ K.faults sink.old) }
@@ -118,8 +118,8 @@ fn answer_last<K: Sink>(
     machine: &mut Machine,
     sink: &mut K,
 ) -> Result<(), Fault>
-    requires lives { (w : World) × Lives w session.old machine.old }
-    ensures answers { (w : World) (l : List ℕ) → Lives w session.old machine.old → line.now ≡ take kept_bytes l
+    requires lives { (w : World) × IsSessionOf w session.old machine.old }
+    ensures answers { (w : World) (l : List ℕ) → IsSessionOf w session.old machine.old → line.now ≡ take kept_bytes l
         → AnswersSome result w (some_line l) session.new machine.new (K.held sink.old) (K.held sink.new) }
     ensures later { K.faults sink.old ≤ K.faults sink.new }
     ensures same { OnOk result (K.faults sink.new ≡ K.faults sink.old) }
@@ -139,8 +139,8 @@ fn answer_end<K: Sink>(
     machine: &mut Machine,
     sink: &mut K,
 ) -> Result<(), Fault>
-    requires lives { (w : World) × Lives w session.old machine.old }
-    ensures answers { (w : World) → Lives w session.old machine.old
+    requires lives { (w : World) × IsSessionOf w session.old machine.old }
+    ensures answers { (w : World) → IsSessionOf w session.old machine.old
         → AnswersSome result w (missing_end w.mode) session.new machine.new (K.held sink.old) (K.held sink.new) }
     ensures later { K.faults sink.old ≤ K.faults sink.new }
     ensures same { OnOk result (K.faults sink.new ≡ K.faults sink.old) }
@@ -163,8 +163,8 @@ fn take_turn<S: Source, K: Sink>(
     sink: &mut K,
     machine: &mut Machine,
 ) -> Result<Turn, Fault>
-    requires lives { (w : World) × Lives w session.old machine.old }
-    ensures turns { (w : World) → Lives w session.old machine.old
+    requires lives { (w : World) × IsSessionOf w session.old machine.old }
+    ensures turns { (w : World) → IsSessionOf w session.old machine.old
         → Turns result w session.new machine.new (record {
           kept = line.new.items;
           room = room.old;

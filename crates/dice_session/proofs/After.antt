@@ -28,11 +28,12 @@ use Rattle.statement_code.specs.Forms.{BlockForm, Store, HasFrame, simple}
 use Rattle.image_plan.specs.Links.{blocks_of}
 use Rattle.image_plan.specs.Load.{place_from, place_of, extent_of, HasParts}
 use Rattle.image_plan.proofs.Laid.{is_same}
-use Rattle.dice_session.specs.World.{line, newest_name, ending_of, written_part, has_ended, has_ended_by}
-use Rattle.dice_session.specs.Places.{name_from, name_at, ending_told, ends}
-use Rattle.dice_session.specs.Progress.{IsStartedBy}
-use Rattle.dice_session.specs.Represents.{AtGate, AtNewest, StandsAt, FramesStand}
-use Rattle.dice_session.specs.Simulates.{IsWellFormed, IsWellFormedBy, Simulates, CanRunFrom, Ran}
+use Rattle.dice_session.specs.World.{reply_line, newest_name, ending_of, written_part}
+use Rattle.dice_session.specs.Places.{name_from, name_at, ending_text, ends}
+use Rattle.dice_session.specs.Progress.{progress_of, is_over}
+use Rattle.dice_session.specs.declared.progress.Progress.TheVariants as progress
+use Rattle.dice_session.specs.Represents.{AtGate, AtNewest, StandsAt, HasFrames}
+use Rattle.dice_session.specs.Simulates.{IsWellFormed, HoldsProgram, CanRunFrom, Ran}
 use Rattle.dice_session.proofs.Stages.{store_of, stage_by, stage_of, unmarked, HasRunBy}
 use Rattle.dice_session.proofs.Go.{Gone, run_gone}
 
@@ -92,23 +93,23 @@ name_in ss blocks n b at places e (lo, hi) = named_at ss n b.place (length b.wor
 
 pub record After (ss : List Statement) (t : PascalState) (r : MachineState × ConsoleState × Went) : Type 0 where
   pub output : r.1.output ≡ t.output
-  pub over : ends r.2.end ≡ has_ended t
-  pub ending : ending_told ss r.2.end (reg r.0 7 / 2) ≡ ending_of t.status t.activations
-  pub stands : (k : ConsoleState) → k.output ≡ [] → Simulates ss t r.0 k
+  pub over : ends r.2.end ≡ is_over (progress_of t.status)
+  pub ending : ending_text ss r.2.end (reg r.0 7 / 2) ≡ ending_of t.status t.activations
+  pub simulates : (k : ConsoleState) → k.output ≡ [] → HoldsProgram ss t r.0 k
   pub formed : IsWellFormed ss t
-  pub started : IsStartedBy t.status
+  pub started : progress_of t.status ≡ progress.NotStarted → ⊥
 
-started_by : (ss : List Statement) (x : Status) (activations : List Activation) → HasRunBy ss x activations → IsStartedBy x
-started_by ss NotStarted activations h = absurd h
-started_by ss Halted activations h = tt
-started_by ss IsEnded activations h = tt
-started_by ss (HasFailed error name) activations h = tt
+started_by : (ss : List Statement) (x : Status) (activations : List Activation) → HasRunBy ss x activations → progress_of x ≡ progress.NotStarted → ⊥
+started_by ss NotStarted activations h = λ e. h
+started_by ss Halted activations h = λ e. absurd (cc e)
+started_by ss IsEnded activations h = λ e. absurd (cc e)
+started_by ss (HasFailed error name) activations h = λ e. absurd (cc e)
 
-formed_by : (ss : List Statement) (x : Status) (activations : List Activation) → HasRunBy ss x activations → IsWellFormedBy ss x activations
-formed_by ss NotStarted activations h = absurd h
-formed_by ss Halted activations h = h
-formed_by ss IsEnded activations h = tt
-formed_by ss (HasFailed error name) activations h = tt
+formed_by : (ss : List Statement) (t : PascalState) (x : Status) → t.status ≡ x → HasRunBy ss x t.activations → IsWellFormed ss t
+formed_by ss t NotStarted is h = absurd h
+formed_by ss t Halted is h = record { before = λ e. absurd (cc (sym is ∙ e)); halted = λ e. h }
+formed_by ss t IsEnded is h = record { before = λ e. absurd (cc (sym is ∙ e)); halted = λ e. absurd (cc (sym is ∙ e)) }
+formed_by ss t (HasFailed error name) is h = record { before = λ e. absurd (cc (sym is ∙ e)); halted = λ e. absurd (cc (sym is ∙ e)) }
 
 half : (k : ℕ) → 2 * k / 2 ≡ k
 half k = omega (arith)
@@ -120,30 +121,30 @@ globals_on globals c q k h = record { count = h.count; small = h.small; each = h
 frame_on : (c : Cpu) (k : ConsoleState) → HasFrame c → HasFrame (record c { console = k })
 frame_on c k f = record { frame = f.frame; stack = f.stack; back = f.back; caller = f.caller; static_link = f.static_link; charges = f.charges; zeros = f.zeros }
 
--- a machine stands for a state with this status, whatever is left of its output
-record Stands (es : ℕ → Option Block) (x : Status) (t : PascalState) (c : Cpu) : Type 0 where
+-- a machine represents a state with this status, whatever is left of its output
+record LeftIn (es : ℕ → Option Block) (x : Status) (t : PascalState) (c : Cpu) : Type 0 where
   control : StandsAt es x t.activations c
   variables : HasGlobals t.globals c
-  frames : FramesStand x c
+  frames : HasFrames x c
 
 -- a machine that was left, in parts
 record LeftBy (ss : List Statement) (es : ℕ → Option Block) (gates count : ℕ) (x : Status) (t : PascalState) (c : Cpu) : Type 0 where
   output : (left_at (stage_by x t) c).console.output ≡ t.output
-  over : ends (run_end gates count (stage_by x t)) ≡ has_ended_by x
+  over : ends (run_end gates count (stage_by x t)) ≡ is_over (progress_of x)
   same : (left_at (stage_by x t) c).mem ≡ c.mem
-  ending : ending_told ss (run_end gates count (stage_by x t)) (left_at (stage_by x t) c).pc ≡ ending_of x t.activations
-  stands : (k : ConsoleState) → Stands es x t (record (left_at (stage_by x t) c) { console = k })
+  ending : ending_text ss (run_end gates count (stage_by x t)) (left_at (stage_by x t) c).pc ≡ ending_of x t.activations
+  stands : (k : ConsoleState) → LeftIn es x t (record (left_at (stage_by x t) c) { console = k })
 
-stopped_told : (ss : List Statement) (b : Bool) (place n : ℕ) → name_at ss place ≡ n → ending_told ss (if b then end.Counted else end.AtBreak) place ≡ ending_of Halted (record { routine = program_name; statement = n; frames = [] } ∷ [])
-stopped_told ss true place n e = ap (λ m. line (codes "stopped at " ++ decimal m)) e
-stopped_told ss false place n e = ap (λ m. line (codes "stopped at " ++ decimal m)) e
+stopped_told : (ss : List Statement) (b : Bool) (place n : ℕ) → name_at ss place ≡ n → ending_text ss (if b then end.Counted else end.AtBreak) place ≡ ending_of Halted (record { routine = program_name; statement = n; frames = [] } ∷ [])
+stopped_told ss true place n e = ap (λ m. reply_line (codes "stopped at " ++ decimal m)) e
+stopped_told ss false place n e = ap (λ m. reply_line (codes "stopped at " ++ decimal m)) e
 
 stopped_on : (b : Bool) → ends (if b then end.Counted else end.AtBreak) ≡ false
 stopped_on true = refl
 stopped_on false = refl
 
-failed_told : (ss : List Statement) (error place n : ℕ) (activations : List Activation) → name_at ss place ≡ n → ending_told ss (end.Error error) (place + 1) ≡ ending_of (HasFailed error n) activations
-failed_told ss error place n activations e = ap (λ m. line (codes "error " ++ (decimal error ++ (codes " at " ++ decimal m)))) (ap (name_at ss) (back place) ∙ e)
+failed_told : (ss : List Statement) (error place n : ℕ) (activations : List Activation) → name_at ss place ≡ n → ending_text ss (end.Error error) (place + 1) ≡ ending_of (HasFailed error n) activations
+failed_told ss error place n activations e = ap (λ m. reply_line (codes "error " ++ (decimal error ++ (codes " at " ++ decimal m)))) (ap (name_at ss) (back place) ∙ e)
   where
     back : (place : ℕ) → place + 1 - 1 ≡ place
     back place = omega (arith)
@@ -229,8 +230,8 @@ after ss is es gates t r places parts long g = subst (After ss t) (sym g.tells) 
     left_after long = record {
       output = left.output;
       over = left.over;
-      ending = ap (ending_told ss (run_end gates g.count (stage_of t))) (half c.pc) ∙ left.ending;
-      stands = λ k empty. record {
+      ending = ap (ending_text ss (run_end gates g.count (stage_of t))) (half c.pc) ∙ left.ending;
+      simulates = λ k empty. record {
         cpu = record c { console = k };
         is = refl;
         long = long;
@@ -239,8 +240,9 @@ after ss is es gates t r places parts long g = subst (After ss t) (sym g.tells) 
         parts = parts;
         image = subst (HasImage simple (blocks_of (program_of ss)) es unmarked) (sym left.same) g.image;
         represents = let s = left.stands k in record { control = s.control; variables = s.variables; frames = s.frames; console = empty };
+        fresh = λ e. absurd (started_by ss t.status t.activations g.formed (ap progress_of e));
       };
-      formed = formed_by ss t.status t.activations g.formed;
+      formed = formed_by ss t t.status refl g.formed;
       started = started_by ss t.status t.activations g.formed;
     }
 
@@ -248,15 +250,15 @@ after ss is es gates t r places parts long g = subst (After ss t) (sym g.tells) 
 
 pub ran : (ss : List Statement) (gates : ℕ) (s : PascalState) (machine : MachineState) (console : ConsoleState) (before after_all : List ℕ) (r : MachineState × ConsoleState × Went) (k : ConsoleState)
     → IsProgram ss → 1 ≤ gates → r ≡ go_result gates machine console → length r.0.memory ≡ MEMORY_END_WORD → k.output ≡ []
-    → after_all ≡ (before ++ written_part r.1.output) ++ ending_told ss r.2.end (reg r.0 7 / 2) → CanRunFrom ss s machine console → Ran ss gates s (ends r.2.end) before after_all r.0 k
+    → after_all ≡ (before ++ written_part r.1.output) ++ ending_text ss r.2.end (reg r.0 7 / 2) → CanRunFrom ss s machine console → Ran ss gates s (ends r.2.end) before after_all r.0 k
 ran ss gates s machine console before after_all r k is some same long empty told h =
     let t = run_of (program_of ss) gates s in
-    let g = run_gone ss is s gates machine console some h.formed h.can h.stands in
-    let a = after ss is h.stands.blocks gates t r h.stands.places h.stands.parts long (subst (Gone ss is h.stands.blocks gates t) (sym same) g) in
+    let g = run_gone ss is s gates machine console some h.formed h.can h.holds in
+    let a = after ss is h.holds.blocks gates t r h.holds.places h.holds.parts long (subst (Gone ss is h.holds.blocks gates t) (sym same) g) in
     record {
-      told = told ∙ ap (λ o. (before ++ written_part o) ++ ending_told ss r.2.end (reg r.0 7 / 2)) a.output ∙ ap (λ e. (before ++ written_part t.output) ++ e) a.ending ∙ append_assoc before (written_part t.output) (ending_of t.status t.activations);
+      told = told ∙ ap (λ o. (before ++ written_part o) ++ ending_text ss r.2.end (reg r.0 7 / 2)) a.output ∙ ap (λ e. (before ++ written_part t.output) ++ e) a.ending ∙ append_assoc before (written_part t.output) (ending_of t.status t.activations);
       over_is = a.over;
-      stands = a.stands;
+      simulates = a.simulates;
       drained = empty;
       formed = a.formed;
       started = a.started;

@@ -15,57 +15,56 @@ use Rattle.simple_form.specs.Simple.{resolution_of, variables_in, is_built}
 use Rattle.tree_edit.specs.declared.fault.EditFault.{EditFault}
 use Rattle.tree_edit.specs.Edited.{replaced_program}
 use Rattle.dice_session.specs.Reading.{OneStatement}
-use Rattle.dice_session.specs.World.{World, Mode, Commands, Loading, Over, line, loaded, loaded_reply, statements_of, or_none, refused, with_program, if_fits, full_words, is_halted_by, applied_to, applied_by, applied_in, edited_to, edited_in, edit_fault_text, put_in, listed_in}
-use Rattle.dice_session.specs.World as world
-use Rattle.dice_session.specs.Simulates.{StandsFor}
-use Rattle.dice_session.specs.Lives.{HasMode, HasStatements, HasProgram, Lives, Became}
-use Rattle.dice_session.specs.Progress.{progress_by, is_halted}
+use Rattle.dice_session.specs.World.{World, Mode, Commands, Loading, Over, Reply, reply_line, load_reply, loaded_line, statements_of, or_none, refusal, machine_reply, if_program, with_program, begun_reply, if_fits, full_words, unless_halted, apply_fitting, apply_reply, if_built, edit_reply, replace_reply, edit_fault_text, put_reply, list_reply}
+use Rattle.dice_session.specs.Simulates.{SimulatesRun}
+use Rattle.dice_session.specs.SessionOf.{HasMode, HasStatements, HasProgram, IsSessionOf, Became}
+use Rattle.dice_session.specs.Progress.{progress_of, is_halted}
 use Rattle.dice_session.specs.declared.progress.Progress.TheVariants as progress
 use Rattle.dice_session.specs.declared.session.Session.{Session}
 use Rattle.dice_session.proofs.Sessions.{fitting, full-became}
 
 -- ---- where there is no draft, and where there is one
 
-pub list-none : (w : World) (before after : List ℕ) (s : Session) (machine : MachineState) → Lives w s machine → s.draft ≡ None → after ≡ before ++ line (codes "no program") → Became (listed_in w.draft w) before after s machine
-list-none w before after s machine h none told = subst (λ d. Became (listed_in d w) before after s machine) (sym none ∙ h.draft) (record { told = told; lives = h })
+pub list-none : (w : World) (before after : List ℕ) (s : Session) (machine : MachineState) → IsSessionOf w s machine → s.draft ≡ None → after ≡ before ++ reply_line (codes "no program") → Became (if_program w.draft w (list_reply w)) before after machine s machine
+list-none w before after s machine h none told = subst (λ d. Became (if_program d w (list_reply w)) before after machine s machine) (sym none ∙ h.draft) (record { told = told; of_world = h; kept = λ e. refl })
 
-pub list-some : (w : World) (p : Tree) (before after : List ℕ) (s : Session) (machine : MachineState) → Lives w s machine → s.draft ≡ Some p → after ≡ before ++ listing true p → Became (listed_in w.draft w) before after s machine
-list-some w p before after s machine h some told = subst (λ d. Became (listed_in d w) before after s machine) (sym some ∙ h.draft) (record { told = told; lives = h })
+pub list-some : (w : World) (p : Tree) (before after : List ℕ) (s : Session) (machine : MachineState) → IsSessionOf w s machine → s.draft ≡ Some p → after ≡ before ++ listing true p → Became (if_program w.draft w (list_reply w)) before after machine s machine
+list-some w p before after s machine h some told = subst (λ d. Became (if_program d w (list_reply w)) before after machine s machine) (sym some ∙ h.draft) (record { told = told; of_world = h; kept = λ e. refl })
 
-pub edit-none : (w : World) (name : ℕ) (x : Stmt) (before after : List ℕ) (s : Session) (machine : MachineState) → Lives w s machine → s.draft ≡ None → after ≡ before ++ line (codes "no program") → Became (edited_in w.draft w name x) before after s machine
-edit-none w name x before after s machine h none told = subst (λ d. Became (edited_in d w name x) before after s machine) (sym none ∙ h.draft) (record { told = told; lives = h })
+pub edit-none : (w : World) (name : ℕ) (x : Stmt) (before after : List ℕ) (s : Session) (machine : MachineState) → IsSessionOf w s machine → s.draft ≡ None → after ≡ before ++ reply_line (codes "no program") → Became (if_program w.draft w (replace_reply w name x)) before after machine s machine
+edit-none w name x before after s machine h none told = subst (λ d. Became (if_program d w (replace_reply w name x)) before after machine s machine) (sym none ∙ h.draft) (record { told = told; of_world = h; kept = λ e. refl })
 
-pub apply-none : (w : World) (before after : List ℕ) (s : Session) (machine : MachineState) → Lives w s machine → s.draft ≡ None → after ≡ before ++ line (codes "no program") → Became (applied_in w.draft w) before after s machine
-apply-none w before after s machine h none told = subst (λ d. Became (applied_in d w) before after s machine) (sym none ∙ h.draft) (record { told = told; lives = h })
+pub apply-none : (w : World) (before after : List ℕ) (s : Session) (machine : MachineState) → IsSessionOf w s machine → s.draft ≡ None → after ≡ before ++ reply_line (codes "no program") → Became (if_program w.draft w (apply_reply w)) before after machine s machine
+apply-none w before after s machine h none told = subst (λ d. Became (if_program d w (apply_reply w)) before after machine s machine) (sym none ∙ h.draft) (record { told = told; of_world = h; kept = λ e. refl })
 
-pub apply-some : (w : World) (p : Tree) (before after : List ℕ) (s t : Session) (machine now : MachineState) → Lives w s machine → s.draft ≡ Some p → Became (applied_by (resolution_of p) w p) before after t now → Became (applied_in w.draft w) before after t now
-apply-some w p before after s t machine now h some became = subst (λ d. Became (applied_in d w) before after t now) (sym some ∙ h.draft) became
+pub apply-some : (w : World) (p : Tree) (before after : List ℕ) (s t : Session) (machine now : MachineState) → IsSessionOf w s machine → s.draft ≡ Some p → Became (apply_reply w p) before after machine t now → Became (if_program w.draft w (apply_reply w)) before after machine t now
+apply-some w p before after s t machine now h some became = subst (λ d. Became (if_program d w (apply_reply w)) before after machine t now) (sym some ∙ h.draft) became
 
-pub apply-unbuilt : (w : World) (p : Tree) (before after : List ℕ) (s : Session) (machine : MachineState) → Lives w s machine → resolution_of p ≡ None → after ≡ before ++ line (codes "not built") → Became (applied_by (resolution_of p) w p) before after s machine
-apply-unbuilt w p before after s machine h none told = subst (λ r. Became (applied_by r w p) before after s machine) (sym none) (record { told = told; lives = h })
+pub apply-unbuilt : (w : World) (p : Tree) (before after : List ℕ) (s : Session) (machine : MachineState) → IsSessionOf w s machine → resolution_of p ≡ None → after ≡ before ++ reply_line (codes "not built") → Became (apply_reply w p) before after machine s machine
+apply-unbuilt w p before after s machine h none told = subst (λ r. Became (if_built r w (apply_fitting w p)) before after machine s machine) (sym none) (record { told = told; of_world = h; kept = λ e. refl })
 
 -- ---- edits
 
-pub put-built : (w : World) (name : ℕ) (x : Stmt) (before after : List ℕ) (s t : Session) (machine now : MachineState) → Lives w s machine → is_built (variables_in s.draft) x ≡ true → Became (edited_in w.draft w name x) before after t now
-    → Became (put_in w name (OneStatement x)) before after t now
+pub put-built : (w : World) (name : ℕ) (x : Stmt) (before after : List ℕ) (s t : Session) (machine now : MachineState) → IsSessionOf w s machine → is_built (variables_in s.draft) x ≡ true → Became (if_program w.draft w (replace_reply w name x)) before after machine t now
+    → Became (put_reply w name (OneStatement x)) before after machine t now
 put-built w name x before after s t machine now h built became =
-    subst (λ b. Became (if b then edited_in w.draft w name x else refused w (codes "not built")) before after t now) (sym (ap (λ d. is_built (variables_in d) x) (sym h.draft) ∙ built)) became
+    subst (λ b. Became (if b then if_program w.draft w (replace_reply w name x) else refusal w (codes "not built")) before after machine t now) (sym (ap (λ d. is_built (variables_in d) x) (sym h.draft) ∙ built)) became
 
-pub put-unbuilt : (w : World) (name : ℕ) (x : Stmt) (before after : List ℕ) (s : Session) (machine : MachineState) → Lives w s machine → is_built (variables_in s.draft) x ≡ false → after ≡ before ++ line (codes "not built")
-    → Became (put_in w name (OneStatement x)) before after s machine
+pub put-unbuilt : (w : World) (name : ℕ) (x : Stmt) (before after : List ℕ) (s : Session) (machine : MachineState) → IsSessionOf w s machine → is_built (variables_in s.draft) x ≡ false → after ≡ before ++ reply_line (codes "not built")
+    → Became (put_reply w name (OneStatement x)) before after machine s machine
 put-unbuilt w name x before after s machine h unbuilt told =
-    subst (λ b. Became (if b then edited_in w.draft w name x else refused w (codes "not built")) before after s machine) (sym (ap (λ d. is_built (variables_in d) x) (sym h.draft) ∙ unbuilt)) (record { told = told; lives = h })
+    subst (λ b. Became (if b then if_program w.draft w (replace_reply w name x) else refusal w (codes "not built")) before after machine s machine) (sym (ap (λ d. is_built (variables_in d) x) (sym h.draft) ∙ unbuilt)) (record { told = told; of_world = h; kept = λ e. refl })
 
 -- another draft
-pub with-draft : (w : World) (p : Tree) (s t : Session) (machine : MachineState) → Lives w s machine → t.over ≡ s.over → t.text ≡ s.text → t.program ≡ s.program → t.progress ≡ s.progress → t.console ≡ s.console → t.draft ≡ Some p
-    → Lives (record w { draft = Some p }) t machine
+pub with-draft : (w : World) (p : Tree) (s t : Session) (machine : MachineState) → IsSessionOf w s machine → t.over ≡ s.over → t.text ≡ s.text → t.program ≡ s.program → t.progress ≡ s.progress → t.console ≡ s.console → t.draft ≡ Some p
+    → IsSessionOf (record w { draft = Some p }) t machine
 with-draft w p s t machine h over text program progress console draft = record {
   mode = mode w.mode h.mode;
   program = kept w.present h.program;
   progress = progress ∙ h.progress;
   draft = draft;
   drained = ap (λ c. c.output) console ∙ h.drained;
-  stands = h.stands;
+  simulates = h.simulates;
 }
   where
     mode : (m : Mode) → HasMode m s → HasMode m t
@@ -77,34 +76,35 @@ with-draft w p s t machine h over text program progress console draft = record {
     kept None h = program ∙ h
     kept (Some p) h = record { statements = ap (option_map (λ v. v.items)) program ∙ h.statements; program = h.program; formed = h.formed }
 
-pub edit-done : (w : World) (name : ℕ) (x : Stmt) (p q : Tree) (before after : List ℕ) (s t : Session) (machine : MachineState) → Lives w s machine → s.draft ≡ Some p → replaced_program name x p ≡ Ok q
+pub edit-done : (w : World) (name : ℕ) (x : Stmt) (p q : Tree) (before after : List ℕ) (s t : Session) (machine : MachineState) → IsSessionOf w s machine → s.draft ≡ Some p → replaced_program name x p ≡ Ok q
     → t.over ≡ s.over → t.text ≡ s.text → t.program ≡ s.program → t.progress ≡ s.progress → t.console ≡ s.console → t.draft ≡ Some q
-    → after ≡ before ++ line (codes "edited " ++ decimal name) → Became (edited_in w.draft w name x) before after t machine
+    → after ≡ before ++ reply_line (codes "edited " ++ decimal name) → Became (if_program w.draft w (replace_reply w name x)) before after machine t machine
 edit-done w name x p q before after s t machine h some is over text program progress console draft told =
-    subst (λ d. Became (edited_in d w name x) before after t machine) (sym some ∙ h.draft)
-    (subst (λ r. Became (edited_to w name r) before after t machine) (sym is) (record { told = told; lives = with-draft w q s t machine h over text program progress console draft }))
+    subst (λ d. Became (if_program d w (replace_reply w name x)) before after machine t machine) (sym some ∙ h.draft)
+    (subst (λ r. Became (edit_reply w name r) before after machine t machine) (sym is) (record { told = told; kept = λ e. refl; of_world = with-draft w q s t machine h over text program progress console draft }))
 
-pub edit-refused : (w : World) (name : ℕ) (x : Stmt) (p : Tree) (fault : EditFault) (before after : List ℕ) (s : Session) (machine : MachineState) → Lives w s machine → s.draft ≡ Some p → replaced_program name x p ≡ Err fault
-    → after ≡ before ++ line (edit_fault_text fault) → Became (edited_in w.draft w name x) before after s machine
+pub edit-refused : (w : World) (name : ℕ) (x : Stmt) (p : Tree) (fault : EditFault) (before after : List ℕ) (s : Session) (machine : MachineState) → IsSessionOf w s machine → s.draft ≡ Some p → replaced_program name x p ≡ Err fault
+    → after ≡ before ++ reply_line (edit_fault_text fault) → Became (if_program w.draft w (replace_reply w name x)) before after machine s machine
 edit-refused w name x p fault before after s machine h some is told =
-    subst (λ d. Became (edited_in d w name x) before after s machine) (sym some ∙ h.draft)
-    (subst (λ r. Became (edited_to w name r) before after s machine) (sym is) (record { told = told; lives = h }))
+    subst (λ d. Became (if_program d w (replace_reply w name x)) before after machine s machine) (sym some ∙ h.draft)
+    (subst (λ r. Became (edit_reply w name r) before after machine s machine) (sym is) (record { told = told; of_world = h; kept = λ e. refl }))
 
 -- ---- a program is loaded
 
 -- the machine was made ready, and the statements are those of the present program
-pub begun-became : (w : World) (p : Tree) (ss : List Statement) (before after : List ℕ) (s t : Session) (machine now : MachineState) → Lives w s machine → w.mode ≡ Commands → resolution_of p ≡ Some ss → IsProgram ss
+pub begun-became : (w : World) (p : Tree) (ss : List Statement) (before after : List ℕ) (s t : Session) (machine now : MachineState) → IsSessionOf w s machine → w.mode ≡ Commands → resolution_of p ≡ Some ss → IsProgram ss
     → t.over ≡ s.over → t.text ≡ s.text → t.draft ≡ s.draft → t.progress ≡ progress.NotStarted → option_map (λ v. v.items) t.program ≡ Some ss → t.console.output ≡ []
-    → StandsFor ss loaded_state now → after ≡ before ++ loaded_reply ss → Became (with_program w p, loaded_reply ss) before after t now
+    → SimulatesRun ss loaded_state now → after ≡ before ++ loaded_line ss → Became (begun_reply w p ss) before after machine t now
 begun-became w p ss before after s t machine now h commands is program over text draft progress statements drained stands told = record {
   told = told;
-  lives = record {
+  kept = λ e. absurd (cc e);
+  of_world = record {
     mode = let m = subst (λ m. HasMode m s) commands h.mode in subst (λ m. HasMode m t) (sym commands) (over ∙ m.0, text ∙ m.1);
-    program = subst (λ xs. HasProgramOf xs) (sym same) (record { statements = statements; program = program; formed = refl });
+    program = subst (λ xs. HasProgramOf xs) (sym same) (record { statements = statements; program = program; formed = record { before = λ e. refl; halted = λ e. absurd (cc e) } });
     progress = progress;
     draft = draft ∙ h.draft;
     drained = drained;
-    stands = subst (λ xs. StandsFor xs loaded_state now) (sym same) stands;
+    simulates = subst (λ xs. SimulatesRun xs loaded_state now) (sym same) stands;
   };
 }
   where
@@ -115,44 +115,35 @@ begun-became w p ss before after s t machine now h commands is program over text
     HasProgramOf xs = HasStatements xs loaded_state t
 
 -- the draft is that program as well
-pub loaded-became : (w : World) (p : Tree) (ss : List Statement) (before after : List ℕ) (s t : Session) (now : MachineState) → program_charge + charges_of ss ≤ code_room
-    → Became (with_program w p, loaded_reply ss) before after s now
-    → t.over ≡ s.over → t.text ≡ s.text → t.program ≡ s.program → t.progress ≡ s.progress → t.console ≡ s.console → t.draft ≡ Some p → Became (loaded w p ss) before after t now
-loaded-became w p ss before after s t now fits became over text program progress console draft =
-    subst (λ next. Became next before after t now) (sym (fitting ss w (record (with_program w p) { draft = Some p }, loaded_reply ss) fits)) (record {
+pub loaded-became : (w : World) (p : Tree) (ss : List Statement) (before after : List ℕ) (machine : MachineState) (s t : Session) (now : MachineState) → program_charge + charges_of ss ≤ code_room
+    → Became (begun_reply w p ss) before after machine s now
+    → t.over ≡ s.over → t.text ≡ s.text → t.program ≡ s.program → t.progress ≡ s.progress → t.console ≡ s.console → t.draft ≡ Some p → Became (load_reply w p ss) before after machine t now
+loaded-became w p ss before after machine s t now fits became over text program progress console draft =
+    subst (λ next. Became next before after machine t now) (sym (fitting ss w (machine_reply (record (with_program w p) { draft = Some p }) (loaded_line ss)) fits)) (record {
       told = became.told;
-      lives = with-draft (with_program w p) p s t now became.lives over text program progress console draft;
+      kept = λ e. absurd (cc e);
+      of_world = with-draft (with_program w p) p s t now became.of_world over text program progress console draft;
     })
 
-halted-by : (st : Status) → is_halted (progress_by st) ≡ is_halted_by st
-halted-by NotStarted = refl
-halted-by Halted = refl
-halted-by Ended = refl
-halted-by (Failed error name) = refl
-
 -- what the session keeps tells whether the program is stopped
-stopped-is : (w : World) (s : Session) (machine : MachineState) → Lives w s machine → is_halted s.progress ≡ world.is_halted w.state
-stopped-is w s machine h = ap is_halted h.progress ∙ halted-by w.state.status
+stopped-is : (w : World) (s : Session) (machine : MachineState) → IsSessionOf w s machine → is_halted s.progress ≡ is_halted (progress_of w.state.status)
+stopped-is w s machine h = ap is_halted h.progress
 
--- what the draft's statements become
-abbrev applied : World → Tree → List Statement → World × List ℕ
-applied w p ss = if_fits ss w (applied_to w p ss)
-
-pub apply-full : (w : World) (p : Tree) (ss : List Statement) (before after : List ℕ) (words : ℕ) (s : Session) (machine : MachineState) → Lives w s machine → resolution_of p ≡ Some ss → words ≡ program_charge + charges_of ss → code_room < words
-    → after ≡ before ++ line (full_words words) → Became (applied_by (resolution_of p) w p) before after s machine
+pub apply-full : (w : World) (p : Tree) (ss : List Statement) (before after : List ℕ) (words : ℕ) (s : Session) (machine : MachineState) → IsSessionOf w s machine → resolution_of p ≡ Some ss → words ≡ program_charge + charges_of ss → code_room < words
+    → after ≡ before ++ reply_line (full_words words) → Became (apply_reply w p) before after machine s machine
 apply-full w p ss before after words s machine h is sum large told =
-    subst (λ r. Became (applied_by r w p) before after s machine) (sym is) (full-became w ss (applied_to w p ss) before after words s machine h sum large told)
+    subst (λ r. Became (if_built r w (apply_fitting w p)) before after machine s machine) (sym is) (full-became w ss (unless_halted w (begun_reply w p ss)) before after words s machine h sum large told)
 
-pub apply-halted : (w : World) (p : Tree) (ss : List Statement) (before after : List ℕ) (s : Session) (machine : MachineState) → Lives w s machine → resolution_of p ≡ Some ss → program_charge + charges_of ss ≤ code_room → is_halted s.progress ≡ true
-    → after ≡ before ++ line (codes "not built") → Became (applied_by (resolution_of p) w p) before after s machine
+pub apply-halted : (w : World) (p : Tree) (ss : List Statement) (before after : List ℕ) (s : Session) (machine : MachineState) → IsSessionOf w s machine → resolution_of p ≡ Some ss → program_charge + charges_of ss ≤ code_room → is_halted s.progress ≡ true
+    → after ≡ before ++ reply_line (codes "not built") → Became (apply_reply w p) before after machine s machine
 apply-halted w p ss before after s machine h is fits halted told =
-    subst (λ r. Became (applied_by r w p) before after s machine) (sym is)
-    (subst (λ next. Became next before after s machine) (sym (fitting ss w (applied_to w p ss) fits))
-    (subst (λ b. Became (if b then refused w (codes "not built") else (with_program w p, loaded_reply ss)) before after s machine) (sym (sym (stopped-is w s machine h) ∙ halted)) (record { told = told; lives = h })))
+    subst (λ r. Became (if_built r w (apply_fitting w p)) before after machine s machine) (sym is)
+    (subst (λ next. Became next before after machine s machine) (sym (fitting ss w (unless_halted w (begun_reply w p ss)) fits))
+    (subst (λ b. Became (if b then refusal w (codes "not built") else (begun_reply w p ss)) before after machine s machine) (sym (sym (stopped-is w s machine h) ∙ halted)) (record { told = told; of_world = h; kept = λ e. refl })))
 
-pub apply-done : (w : World) (p : Tree) (ss : List Statement) (before after : List ℕ) (s t : Session) (machine now : MachineState) → Lives w s machine → resolution_of p ≡ Some ss → program_charge + charges_of ss ≤ code_room → is_halted s.progress ≡ false
-    → Became (with_program w p, loaded_reply ss) before after t now → Became (applied_by (resolution_of p) w p) before after t now
+pub apply-done : (w : World) (p : Tree) (ss : List Statement) (before after : List ℕ) (s t : Session) (machine now : MachineState) → IsSessionOf w s machine → resolution_of p ≡ Some ss → program_charge + charges_of ss ≤ code_room → is_halted s.progress ≡ false
+    → Became (begun_reply w p ss) before after machine t now → Became (apply_reply w p) before after machine t now
 apply-done w p ss before after s t machine now h is fits going became =
-    subst (λ r. Became (applied_by r w p) before after t now) (sym is)
-    (subst (λ next. Became next before after t now) (sym (fitting ss w (applied_to w p ss) fits))
-    (subst (λ b. Became (if b then refused w (codes "not built") else (with_program w p, loaded_reply ss)) before after t now) (sym (sym (stopped-is w s machine h) ∙ going)) became))
+    subst (λ r. Became (if_built r w (apply_fitting w p)) before after machine t now) (sym is)
+    (subst (λ next. Became next before after machine t now) (sym (fitting ss w (unless_halted w (begun_reply w p ss)) fits))
+    (subst (λ b. Became (if b then refusal w (codes "not built") else (begun_reply w p ss)) before after machine t now) (sym (sym (stopped-is w s machine h) ∙ going)) became))

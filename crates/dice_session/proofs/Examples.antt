@@ -10,11 +10,11 @@ use Rattle.pascal_semantics.specs.State.{loaded_state}
 use Rattle.pascal_semantics.specs.Run.{settled, driven, run_of}
 use Rattle.dice_command.specs.Command.{Listing, Apply, Run, Quit, Unbuilt}
 use Rattle.dice_session.specs.Reading.{TooLong, NotBuilt, NoStatement}
-use Rattle.dice_session.specs.World.{Line, Puts, TextEnd, Nothing, line, loaded_reply, run_reply, reply_of, transcript_of}
+use Rattle.dice_session.specs.World.{Line, Puts, TextEnd, Nothing, reply_line, loaded_line, run_lines, reply_of, transcript_of}
 
 -- the reply to a run of so many gates from the start
 abbrev told_of : List Statement → ℕ → List ℕ
-told_of ss gates = run_reply (run_of (program_of ss) gates loaded_state)
+told_of ss gates = run_lines (run_of (program_of ss) gates loaded_state)
 
 -- program m; var i, s: integer; begin i := 2; s := i + 40; writeln(s:1) end.
 abbrev answer : List Statement
@@ -24,16 +24,16 @@ answer =
     ∷ record { name = 6; form = WriteLine (record { first = Global 1; second = None }) (Some 1) }
     ∷ []
 
-answer_loaded : loaded_reply answer ≡ line (codes "loaded 4 blocks 188 words")
+answer_loaded : loaded_line answer ≡ reply_line (codes "loaded 4 blocks 188 words")
 unfolding digits
 answer_loaded = refl
 
-answer_told : told_of answer 1000000 ≡ line (codes "output 3") ++ line (codes "42") ++ line (codes "ended")
+answer_told : told_of answer 1000000 ≡ reply_line (codes "output 3") ++ reply_line (codes "42") ++ reply_line (codes "ended")
 unfolding settled driven digits
 answer_told = refl
 
 -- a run of fewer gates stops before its next statement, and another goes on from there
-answer_twice : told_of answer 1 ++ run_reply (run_of (program_of answer) 1 (run_of (program_of answer) 1 loaded_state)) ≡ line (codes "stopped at 5") ++ line (codes "stopped at 6")
+answer_twice : told_of answer 1 ++ run_lines (run_of (program_of answer) 1 (run_of (program_of answer) 1 loaded_state)) ≡ reply_line (codes "stopped at 5") ++ reply_line (codes "stopped at 6")
 unfolding settled driven digits
 answer_twice = refl
 
@@ -46,11 +46,11 @@ edited =
     ∷ record { name = 6; form = WriteLine (record { first = Global 1; second = None }) (Some 1) }
     ∷ []
 
-edited_loaded : loaded_reply edited ≡ line (codes "loaded 5 blocks 196 words")
+edited_loaded : loaded_line edited ≡ reply_line (codes "loaded 5 blocks 196 words")
 unfolding digits
 edited_loaded = refl
 
-edited_told : told_of edited 2 ++ told_of edited 9 ≡ line (codes "stopped at 8") ++ line (codes "output 2") ++ line (codes "3") ++ line (codes "ended")
+edited_told : told_of edited 2 ++ told_of edited 9 ≡ reply_line (codes "stopped at 8") ++ reply_line (codes "output 2") ++ reply_line (codes "3") ++ reply_line (codes "ended")
 unfolding settled driven digits
 edited_told = refl
 
@@ -61,13 +61,13 @@ too_large =
     ∷ record { name = 5; form = Assign 0 (record { first = Global 0; second = Some (Number 1) }) }
     ∷ []
 
-too_large_told : told_of too_large 9 ≡ line (codes "error 3 at 5")
+too_large_told : told_of too_large 9 ≡ reply_line (codes "error 3 at 5")
 unfolding settled driven digits
 too_large_told = refl
 
 -- no program, texts that are none, and what stands behind `quit`
 none_told : transcript_of (Line (Run 1) ∷ Line Listing ∷ Line Apply ∷ Puts 4 NoStatement ∷ TextEnd TooLong ∷ TextEnd NotBuilt ∷ Line Unbuilt ∷ Line Quit ∷ Nothing ∷ [])
-    ≡ line (codes "no program") ++ line (codes "no program") ++ line (codes "no program") ++ line (codes "not built") ++ line (codes "text too long") ++ line (codes "not built") ++ line (codes "not built")
+    ≡ reply_line (codes "no program") ++ reply_line (codes "no program") ++ reply_line (codes "no program") ++ reply_line (codes "not built") ++ reply_line (codes "text too long") ++ reply_line (codes "not built") ++ reply_line (codes "not built")
 unfolding reply_of
 none_told = refl
 
@@ -75,27 +75,27 @@ none_told = refl
 abbrev with_empty : List Statement
 with_empty = record { name = 4; form = Empty } ∷ record { name = 9; form = WriteLine (record { first = Number 7; second = None }) None } ∷ []
 
-with_empty_loaded : loaded_reply with_empty ≡ line (codes "loaded 3 blocks 84 words")
+with_empty_loaded : loaded_line with_empty ≡ reply_line (codes "loaded 3 blocks 84 words")
 unfolding digits
 with_empty_loaded = refl
 
-with_empty_stops : told_of with_empty 1 ≡ line (codes "stopped at 9")
+with_empty_stops : told_of with_empty 1 ≡ reply_line (codes "stopped at 9")
 unfolding settled driven digits
 with_empty_stops = refl
 
-with_empty_ends : told_of with_empty 2 ≡ line (codes "output 9") ++ line (codes "       7") ++ line (codes "ended")
+with_empty_ends : told_of with_empty 2 ≡ reply_line (codes "output 9") ++ reply_line (codes "       7") ++ reply_line (codes "ended")
 unfolding settled driven digits
 with_empty_ends = refl
 
 -- a program with no statement ends at once, `begin end` with its one empty statement at its first gate
-none_loaded : loaded_reply [] ≡ line (codes "loaded 1 blocks 32 words")
+none_loaded : loaded_line [] ≡ reply_line (codes "loaded 1 blocks 32 words")
 unfolding digits
 none_loaded = refl
 
-none_ends : told_of [] 1 ≡ line (codes "ended")
+none_ends : told_of [] 1 ≡ reply_line (codes "ended")
 unfolding settled driven digits
 none_ends = refl
 
-empty_ends : told_of (record { name = 4; form = Empty } ∷ []) 1 ≡ line (codes "ended")
+empty_ends : told_of (record { name = 4; form = Empty } ∷ []) 1 ≡ reply_line (codes "ended")
 unfolding settled driven digits
 empty_ends = refl

@@ -23,8 +23,9 @@ use Rattle.pascal_semantics.proofs.Settles.{before_gate}
 use Rattle.statement_code.specs.Forms.{BlockForm, ProgramBlock, StatementBlock, NoCall, Store, HasFrame, FrameHolds, Holds, simple}
 use Rattle.image_plan.specs.Links.{blocks_of}
 use Rattle.image_plan.proofs.Laid.{same_test}
-use Rattle.dice_session.specs.Represents.{AtBegin, AtGate, AtNewest, StandsAt, FramesStand}
-use Rattle.dice_session.specs.Simulates.{IsWellFormed, IsWellFormedBy, CanRun, CanRunBy, Simulates}
+use Rattle.dice_session.specs.Represents.{AtBegin, AtGate, AtNewest, StandsAt, HasFrames}
+use Rattle.dice_session.specs.Simulates.{IsWellFormed, HoldsProgram}
+use Rattle.dice_session.specs.Progress.{progress_of, is_over}
 use Rattle.dice_session.proofs.Stages.{stage_of, stage_live, unmarked, short, HasRun, not_program, form_at, Driven, driven_ended, driven_is}
 use Rattle.dice_session.proofs.Good.{cost_bound, spent_bound, AreWords, GoodNamed, Good, left_most, good_fits, good_keeps}
 
@@ -102,8 +103,8 @@ begin_gone ss is es gates s c words no_gate image stands =
 -- ---- from one simulated state to another
 
 -- a run on a machine that stands for a state
-pub run_gone : (ss : List Statement) (is : IsProgram ss) (s : PascalState) (gates : ℕ) (machine : MachineState) (console : ConsoleState) → 1 ≤ gates → IsWellFormed ss s → CanRun s → (h : Simulates ss s machine console) → Gone ss is h.blocks gates (run_of (program_of ss) gates s) (go_result gates machine console)
-run_gone ss is s gates machine console some formed can h = subst (λ m. Gone ss is h.blocks gates (run_of P gates s) (go_result gates m.0 m.1)) h.is (by s.status refl formed can h.represents.control h.represents.frames)
+pub run_gone : (ss : List Statement) (is : IsProgram ss) (s : PascalState) (gates : ℕ) (machine : MachineState) (console : ConsoleState) → 1 ≤ gates → IsWellFormed ss s → is_over (progress_of s.status) ≡ false → (h : HoldsProgram ss s machine console) → Gone ss is h.blocks gates (run_of (program_of ss) gates s) (go_result gates machine console)
+run_gone ss is s gates machine console some formed can h = subst (λ m. Gone ss is h.blocks gates (run_of P gates s) (go_result gates m.0 m.1)) h.is (by s.status refl can h.represents.control h.represents.frames)
   where
     P : PascalProgram
     P = program_of ss
@@ -124,11 +125,12 @@ run_gone ss is s gates machine console some formed can h = subst (λ m. Gone ss 
         gate_gone ss is h.blocks gates n row s.globals c some e words h.image
         (record { form = StatementBlock row.form; has = form_at ss is.free n row e; fits = tt; block = at.lies; entry = at.is; offset = 0; start = at.gate; place = omega (arith, at.place); long = h.long; holds = record { globals_are = h.represents.variables; frame = frame; console = h.represents.console }; waits = tt })
 
-    by : (x : Status) → s.status ≡ x → IsWellFormedBy ss x s.activations → CanRunBy x → StandsAt h.blocks x s.activations c → FramesStand x c → Gone ss is h.blocks gates (run_of P gates s) (go_result gates (state_of c).0 (state_of c).1)
-    by NotStarted e f g at frames = subst (λ t. Gone ss is h.blocks gates (driven gates P t) (go_result gates (state_of c).0 (state_of c).1)) (sym (ap (λ x. started_by x P (unwritten s)) e)) (begin at frames.0)
-    by Halted e (n, row, found, acts) g at frames =
+    by : (x : Status) → s.status ≡ x → is_over (progress_of x) ≡ false → StandsAt h.blocks x s.activations c → HasFrames x c → Gone ss is h.blocks gates (run_of P gates s) (go_result gates (state_of c).0 (state_of c).1)
+    by NotStarted e g at frames = subst (λ t. Gone ss is h.blocks gates (driven gates P t) (go_result gates (state_of c).0 (state_of c).1)) (sym (ap (λ x. started_by x P (unwritten s)) e)) (begin at frames)
+    by Halted e g at frames =
+        let (n, row, found, acts) = formed.halted e in
         let same : unwritten s ≡ before_gate n s.globals [] = ap (λ x. record (unwritten s) { status = x }) e ∙ ap (λ a. record { status = Halted; activations = a; globals = s.globals; output = [] }) acts in
         let same2 : started P (unwritten s) ≡ before_gate n s.globals [] = ap (λ x. started_by x P (unwritten s)) e ∙ same in
         subst (λ t. Gone ss is h.blocks gates (driven gates P t) (go_result gates (state_of c).0 (state_of c).1)) (sym same2) (gate n row found (subst (λ a. AtNewest h.blocks a c) acts at).1 frames)
-    by IsEnded e f g at frames = absurd g
-    by (HasFailed error name) e f g at frames = absurd g
+    by IsEnded e g at frames = absurd (cc g)
+    by (HasFailed error name) e g at frames = absurd (cc g)

@@ -16,8 +16,8 @@ use Rattle.statement_code.specs.Emitted.{IsNoGate}
 use Rattle.pascal_semantics.specs.Valid.{IsProgram, program_name}
 use Rattle.dice_session.proofs.After.{parts_of}
 use Rattle.image_plan.specs.Load.{IsLoad, extent_of}
-use Rattle.dice_session.specs.Places.{poked, ready}
-use Rattle.dice_session.specs.Simulates.{StandsFor}
+use Rattle.dice_session.specs.Places.{with_words, with_start}
+use Rattle.dice_session.specs.Simulates.{SimulatesRun}
 
 -- ---- a memory with words written
 
@@ -25,8 +25,8 @@ memory_with : List ℕ → ℕ → List ℕ → List ℕ
 memory_with mem p [] = mem
 memory_with mem p (w ∷ ws) = memory_with (slice_set mem p w) (p + 1) ws
 
-poked_memory : (m : MachineState) (p : ℕ) (ws : List ℕ) → poked m p ws ≡ record m { memory = memory_with m.memory p ws }
-unfolding poked memory_with
+poked_memory : (m : MachineState) (p : ℕ) (ws : List ℕ) → with_words m p ws ≡ record m { memory = memory_with m.memory p ws }
+unfolding with_words memory_with
 poked_memory m p [] = refl
 poked_memory m p (w ∷ ws) = poked_memory (with_word m (2 * p) w) (p + 1) ws ∙ ap (λ q. record m { memory = memory_with (slice_set m.memory q w) (p + 1) ws }) (half p)
   where
@@ -67,9 +67,9 @@ zeros n i = elim (cases_lt i n) [ inl low ↦ get_or-replicate n i 0 0 low | inr
 abbrev pub loaded_cpu : List ℕ → ConsoleState → Cpu
 loaded_cpu mem k = record { r0 = 0; r1 = 0; r2 = 0; r3 = 0; r4 = 0; r5 = 0; sp = 28672; pc = 256; mem = mem; flags = record { negative = false; zero = false; overflow = false; carry = false }; upper = 0; console = k }
 
-is_loaded : (ws : List ℕ) (k : ConsoleState) → state_of (loaded_cpu (memory_with (replicate 28672 0) 256 ws) k) ≡ (ready (poked zero_machine 256 ws), k)
+is_loaded : (ws : List ℕ) (k : ConsoleState) → state_of (loaded_cpu (memory_with (replicate 28672 0) 256 ws) k) ≡ (with_start (with_words zero_machine 256 ws), k)
 unfolding zero_machine
-is_loaded ws k = sym (ap (λ m. (ready m, k)) (poked_memory zero_machine 256 ws))
+is_loaded ws k = sym (ap (λ m. (with_start m, k)) (poked_memory zero_machine 256 ws))
 
 has_first : (mem : List ℕ) (p : ℕ) (ws : List ℕ) → 1 ≤ length ws → HasAt mem p ws → slice_index mem p ≡ slice_index ws 0
 has_first mem p [] some h = absurd (omega (arith, some))
@@ -82,7 +82,7 @@ no_gate mem k w e is =
 
 -- ---- the whole
 
-pub loaded_stands : (ss : List Statement) (ws : List ℕ) → IsProgram ss → IsLoad ss ws → StandsFor ss loaded_state (ready (poked zero_machine 256 ws))
+pub loaded_stands : (ss : List Statement) (ws : List ℕ) → IsProgram ss → IsLoad ss ws → SimulatesRun ss loaded_state (with_start (with_words zero_machine 256 ws))
 loaded_stands ss ws is l k empty = record {
   cpu = c;
   is = is_loaded ws k;
@@ -94,9 +94,10 @@ loaded_stands ss ws is l k empty = record {
   represents = record {
     control = record { lies = l.parts.program; is = l.parts.entry; begin = l.parts.begin; place = sym at.0; at = refl; no_gate = no_gate mem k (slice_index ws 0) (has_first mem 256 ws (omega (arith, l.long)) here) l.first };
     variables = record { count = length-replicate {A = ℕ} 4096 0; small = λ n. small n; each = λ n lt. behind (GLOBALS_WORD + n) (omega arith) ∙ sym (zeros 4096 n) };
-    frames = (refl, λ n le. behind n le);
+    frames = refl;
     console = empty;
   };
+  fresh = λ e. record { words = ws; long = l.long; only = refl };
 }
   where
     mem : List ℕ

@@ -5,7 +5,7 @@ use Rattle.std.proofs.lemmas.Bool.{cases_lt}
 use Rattle.std.proofs.lemmas.List.{take-take, length-take, take_min, take-append-le}
 use Rattle.std.proofs.Math.Seq.{take-append-add}
 use Rattle.script_lines.specs.Front.{longest_text, SameFront}
-use Rattle.dice_session.specs.Lives.{kept_text}
+use Rattle.dice_session.specs.SessionOf.{kept_text}
 use Rattle.dice_session.specs.Reading.{Reading, TooLong, NotBuilt, Program, IsReading}
 
 pub front-added : (text bytes : List ℕ) (len count : ℕ) → len ≡ length text → count ≡ min (length bytes) (kept_text - len) → length text ≤ kept_text

@@ -4,6 +4,6 @@ pub mod World
 pub mod Represents
 pub mod Simulates
 pub mod Places
-pub mod Lives
+pub mod SessionOf
 pub mod Texts
 pub mod Progress

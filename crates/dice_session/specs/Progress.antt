@@ -1,32 +1,27 @@
--- How far a program is, as the session keeps it.
+-- How far a program is, as the session keeps it: the four statuses of the plain machine in three.
 use Rattle.std.specs.Prelude.{Bool, true, false}
-use Rattle.pascal_semantics.specs.State.{Status, NotStarted, Halted, Ended, Failed, State}
+use Rattle.pascal_semantics.specs.State.{Status, NotStarted, Halted, Ended, Failed}
 use Rattle.dice_session.specs.declared.progress.Progress.{Progress}
 use Rattle.dice_session.specs.declared.progress.Progress.TheVariants as progress
 
-abbrev pub progress_by : Status → Progress
-progress_by NotStarted = progress.NotStarted
-progress_by Halted = progress.Halted
-progress_by Ended = progress.Over
-progress_by (Failed error name) = progress.Over
+-- how far a program with this status is
+abbrev pub progress_of : Status → Progress
+progress_of NotStarted = progress.NotStarted
+progress_of Halted = progress.Halted
+progress_of Ended = progress.Over
+progress_of (Failed error name) = progress.Over
 
-abbrev pub progress_of : State → Progress
-progress_of s = progress_by s.status
-
--- a run was begun
-abbrev pub IsStartedBy : Status → Type 0
-IsStartedBy NotStarted = ⊥
-IsStartedBy other = Unit {0}
-
--- behind a run that has come to the end of the program or to an error, or has not
-abbrev pub progress_after : Bool → Progress
-progress_after true = progress.Over
-progress_after false = progress.Halted
-
+-- the program has ended, or is in error: no run goes on from there
 abbrev pub is_over : Progress → Bool
 is_over progress.Over = true
 is_over _ = false
 
+-- the program is stopped at a statement
 abbrev pub is_halted : Progress → Bool
 is_halted progress.Halted = true
 is_halted _ = false
+
+-- how far a program is after a run, which has come to its end or to an error, or has not
+abbrev pub progress_after : Bool → Progress
+progress_after true = progress.Over
+progress_after false = progress.Halted

@@ -30,6 +30,7 @@ pub data Reading : Type 0 where
   NotBuilt : Reading
   Program : (tree : Tree) → Reading
 
+-- the text turns out to be this
 abbrev pub IsReading : List ℕ → Reading → Type 0
 IsReading text TooLong = longest_text < length text
 IsReading text NotBuilt = (length text ≤ longest_text) × ((p : Tree) → IsTextOf text p → ⊥)
@@ -46,6 +47,7 @@ pub data Substitute : Type 0 where
   NoStatement : Substitute
   OneStatement : (stmt : Stmt) → Substitute
 
+-- the text turns out to be this in the place of a statement
 abbrev pub IsSubstitute : List ℕ → Substitute → Type 0
 IsSubstitute text NoStatement = (s : Stmt) → IsTextOfStmt text s → ⊥
 IsSubstitute text (OneStatement s) = IsTextOfStmt text s

@@ -13,6 +13,7 @@ use Rattle.dice_session.specs.Reading.{Reading, TooLong, NotBuilt, Program, AreP
 use Rattle.dice_session.specs.declared.reading.Found.{Found}
 use Rattle.dice_session.specs.declared.reading.Found.TheVariants as found
 
+-- what the code found, as a reading
 abbrev pub reading_of : Found → Reading
 reading_of found.TooLong = TooLong
 reading_of found.NotBuilt = NotBuilt
@@ -30,6 +31,7 @@ pub record AreStatements (p : Tree) (ss : List Statement) : Type 0 where
   pub resolves : resolution_of p ≡ Some ss
   pub named : AreNamed ss
 
+-- what the code keeps of a program that it found
 abbrev pub HasFound : Found → Type 0
 HasFound found.TooLong = Unit {0}
 HasFound found.NotBuilt = Unit {0}
@@ -47,6 +49,7 @@ IsReadingBy tree TooLong = ⊥
 IsReadingBy tree NotBuilt = resolution_of (numbered_program tree) ≡ None
 IsReadingBy tree (Program p) = (p ≡ numbered_program tree) × (is_some (resolution_of p) ≡ true)
 
+-- what the code read, as a substitute
 abbrev pub substitute_of : Option Stmt → Substitute
 substitute_of None = NoStatement
 substitute_of (Some s) = OneStatement s

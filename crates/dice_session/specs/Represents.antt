@@ -1,9 +1,9 @@
--- When a machine stands for a state of the plain machine, in four parts: the code's place and the status; the variables;
+-- When a machine represents a state of the plain machine, in four parts: the code's place and the status; the variables;
 -- the frames; the console. All places are word numbers, and the machine's stack and program stand at whole words.
-use Rattle.std.specs.Prelude.{◌≡◌, ℕ, ◌+◌, ◌≤◌, false, List, [], ◌∷◌, slice_index, Option, Some}
+use Rattle.std.specs.Prelude.{◌≡◌, ℕ, ◌+◌, false, List, [], ◌∷◌, slice_index, Option, Some}
 use Rattle.console_service.specs.Run.{gate_here}
 use Rattle.console_service.specs.Cpu.{Cpu, state_of}
-use Rattle.console_service.specs.declared.memory_map.TheConstants.{CODE_WORD, GLOBALS_WORD, MEMORY_END_WORD}
+use Rattle.console_service.specs.declared.memory_map.TheConstants.{CODE_WORD, MEMORY_END_WORD}
 use Rattle.console_service.specs.Block.{First, Gate, Block}
 use Rattle.console_service.specs.Image.{InWords, end_word, trap_word}
 use Rattle.pascal_semantics.specs.Valid.{program_name}
@@ -11,7 +11,7 @@ use Rattle.pascal_semantics.specs.State.{Status, NotStarted, Halted, Ended, Fail
 use Rattle.statement_code.specs.ExpressionCode.{HasGlobals}
 use Rattle.statement_code.specs.Forms.{HasFrame}
 
--- the machine stands at the begin of the program's block, at byte 512, where no gate stands
+-- the machine stands at the begin of the program's block, and of the code area, where no gate stands
 pub record AtBegin (block : Option Block) (c : Cpu) : Type 0 where
   pub lies : Block
   pub is : block ≡ Some lies
@@ -36,11 +36,12 @@ pub record Behind (block : Option Block) (word : ℕ) (c : Cpu) : Type 0 where
   pub place : c.pc ≡ at + 1
   pub executed : slice_index c.mem at ≡ word
 
+-- the machine stands at the gate of the statement of the newest activation, with nothing half done
 abbrev pub AtNewest : (ℕ → Option Block) → List Activation → Cpu → Type 0
 AtNewest blocks [] c = ⊥
 AtNewest blocks (a ∷ older) c = (a.frames ≡ []) × AtGate (blocks a.statement) c
 
--- the code's place and the status: at byte 512 before the start; at the gate of the newest activation's statement;
+-- the code's place and the status: at the begin of the code before the start; at the gate of the newest activation's statement;
 -- behind the word that ended the program, EMT 0 of the program's block; behind TRAP E in the block of the statement in
 -- error
 abbrev pub StandsAt : (ℕ → Option Block) → Status → List Activation → Cpu → Type 0
@@ -49,15 +50,15 @@ StandsAt blocks Halted activations c = AtNewest blocks activations c
 StandsAt blocks Ended activations c = Behind (blocks program_name) end_word c
 StandsAt blocks (Failed error name) activations c = Behind (blocks name) (trap_word error) c
 
--- the frames: none, and all words behind the patch area zero, before the start; the program's at a gate
-abbrev pub FramesStand : Status → Cpu → Type 0
-FramesStand NotStarted c = (c.sp ≡ MEMORY_END_WORD) × ((k : ℕ) → GLOBALS_WORD ≤ k → slice_index c.mem k ≡ 0)
-FramesStand Halted c = HasFrame c
-FramesStand other c = Unit {0}
+-- the frames: none before the start; the program's at a gate
+abbrev pub HasFrames : Status → Cpu → Type 0
+HasFrames NotStarted c = c.sp ≡ MEMORY_END_WORD
+HasFrames Halted c = HasFrame c
+HasFrames other c = Unit {0}
 
--- the machine stands for the state, whose output is all drained
+-- the machine represents the state, whose output is all drained
 pub record Represents (blocks : ℕ → Option Block) (s : State) (c : Cpu) : Type 0 where
   pub control : StandsAt blocks s.status s.activations c
   pub variables : HasGlobals s.globals c
-  pub frames : FramesStand s.status c
+  pub frames : HasFrames s.status c
   pub console : c.console.output ≡ []

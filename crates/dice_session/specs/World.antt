@@ -1,4 +1,5 @@
--- The world of a session, and what a command does to it: its reply, and the world after it.
+-- The world of a session, and what a command does to it: the world after it, what is written, and whether the machine
+-- is touched. The commands and their replies are the debugger's own; docs/COMMANDS.md has them for its user.
 use Rattle.std.specs.Prelude.{◌≡◌, ℕ, ◌+◌, ◌-◌, ◌==◌, nat_lt, Bool, true, false, if◌then◌else◌, List, [], ◌∷◌, ◌++◌, length, codes, bytes_eq, slice_index, Option, Some, None, Result, Ok, Err}
 use Rattle.std.specs.Fmt.{decimal}
 use Rattle.pascal_tree.specs.declared.program.Tree.{Tree}
@@ -17,6 +18,7 @@ use Rattle.pascal_print.specs.Listing.{listing}
 use Rattle.dice_command.specs.declared.command.CommandFault.{CommandFault}
 use Rattle.dice_command.specs.declared.command.CommandFault.TheVariants.{LineTooLong, NotACommand, BadNumber}
 use Rattle.dice_command.specs.Command.{Asked, Blank, Load, Listing, Replace, Apply, Run, Quit, Unbuilt, Bad, command_of}
+use Rattle.dice_session.specs.Progress.{progress_of, is_over, is_halted}
 use Rattle.dice_session.specs.Reading.{Reading, TooLong, NotBuilt, Program, IsReading, Substitute, NoStatement, OneStatement, IsSubstitute}
 
 -- what the next line of the script is: a command; a line of a text that is to be loaded, behind these; or nothing,
@@ -33,6 +35,7 @@ pub record World : Type 0 where
   pub state : State
   pub mode : Mode
 
+-- before the first line of the script
 abbrev pub empty_world : World
 empty_world = record { present = None; draft = None; state = loaded_state; mode = Commands }
 
@@ -49,6 +52,7 @@ pub data Command : Type 0 where
 abbrev pub end_line : List ℕ
 end_line = codes "."
 
+-- the command ends a text, which turns out to be this
 abbrev pub EndsText : List ℕ → Command → Type 0
 EndsText text c = (reading : Reading) × IsReading text reading × (c ≡ TextEnd reading)
 
@@ -59,7 +63,8 @@ IsTextCommand false text line c = c ≡ TextLine line
 
 -- the text of a `replace` is read as a statement
 abbrev pub IsCommand : Asked → Command → Type 0
-IsCommand (Replace name text) c = (statement : Substitute) × IsSubstitute text statement × (c ≡ Puts name statement)
+IsCommand (Replace name text) c =
+    (statement : Substitute) × IsSubstitute text statement × (c ≡ Puts name statement)
 IsCommand asked c = c ≡ Line asked
 
 -- in this mode, the line is this command
@@ -68,130 +73,151 @@ Reads Commands line c = IsCommand (command_of line) c
 Reads (Loading text) line c = IsTextCommand (bytes_eq line end_line) text line c
 Reads Over line c = c ≡ Nothing
 
--- a line of a reply
-abbrev pub line : List ℕ → List ℕ
-line text = text ++ (10 ∷ [])
+-- what comes of a command: the world after it, the bytes that are written, and whether it touches the machine. One that
+-- does not touch it leaves all registers and all memory as they were.
+pub record Reply : Type 0 where
+  pub world : World
+  pub text : List ℕ
+  pub touches : Bool
 
--- `loaded B blocks W words`: all blocks, and the sum of their charges
-abbrev pub loaded_reply : List Statement → List ℕ
-loaded_reply ss = line (codes "loaded " ++ (decimal (1 + length ss) ++ (codes " blocks " ++ (decimal (program_charge + charges_of ss) ++ codes " words"))))
+-- the reply to a command that the session carries out by itself
+abbrev pub host_reply : World → List ℕ → Reply
+host_reply w text = record { world = w; text = text; touches = false }
+
+-- the reply to a command that loads the machine or runs it
+abbrev pub machine_reply : World → List ℕ → Reply
+machine_reply w text = record { world = w; text = text; touches = true }
+
+-- a line of a reply
+abbrev pub reply_line : List ℕ → List ℕ
+reply_line text = text ++ (10 ∷ [])
+
+-- a command that is refused says why, and changes nothing
+abbrev pub refusal : World → List ℕ → Reply
+refusal w text = host_reply w (reply_line text)
+
+-- a command that needs a program is refused where there is none
+abbrev pub if_program : Option Tree → World → (Tree → Reply) → Reply
+if_program None w reply = refusal w (codes "no program")
+if_program (Some p) w reply = reply p
+
+-- ---- runs
 
 -- the last byte of a text that is not empty
 abbrev pub last_of : List ℕ → ℕ
 last_of text = slice_index text (length text - 1)
 
--- what the run wrote, behind a line with its length, and closed by a line end where it has none
-abbrev pub closed : List ℕ → List ℕ
-closed text = if last_of text == 10 then text else line text
+-- a text, closed by a line end where it has none
+abbrev pub whole_lines : List ℕ → List ℕ
+whole_lines text = if last_of text == 10 then text else reply_line text
 
+-- what the run wrote, behind a line with its length; nothing where it wrote nothing
 abbrev pub written_part : List ℕ → List ℕ
 written_part [] = []
-written_part (b ∷ bs) = line (codes "output " ++ decimal (length (b ∷ bs))) ++ closed (b ∷ bs)
+written_part (b ∷ bs) =
+    reply_line (codes "output " ++ decimal (length (b ∷ bs))) ++ whole_lines (b ∷ bs)
 
--- the statement of the newest activation
+-- the statement of the newest activation, which a program stops at; each program that runs has an activation
 abbrev pub newest_name : List Activation → ℕ
 newest_name [] = 0
 newest_name (a ∷ older) = a.statement
 
--- how a run ended
+-- how a run ended; none leaves a program that is not started (`Ran`, its field `started`)
 abbrev pub ending_of : Status → List Activation → List ℕ
 ending_of NotStarted activations = []
-ending_of Halted activations = line (codes "stopped at " ++ decimal (newest_name activations))
-ending_of Ended activations = line (codes "ended")
-ending_of (Failed error name) activations = line (codes "error " ++ (decimal error ++ (codes " at " ++ decimal name)))
+ending_of Halted activations = reply_line (codes "stopped at " ++ decimal (newest_name activations))
+ending_of Ended activations = reply_line (codes "ended")
+ending_of (Failed error name) activations =
+    reply_line (codes "error " ++ (decimal error ++ (codes " at " ++ decimal name)))
 
--- the reply to a run that left this state
-abbrev pub run_reply : State → List ℕ
-run_reply s = written_part s.output ++ ending_of s.status s.activations
+-- what is written of a run that left this state
+abbrev pub run_lines : State → List ℕ
+run_lines s = written_part s.output ++ ending_of s.status s.activations
 
--- the program has ended, or is in error
-abbrev pub has_ended_by : Status → Bool
-has_ended_by NotStarted = false
-has_ended_by Halted = false
-has_ended_by Ended = true
-has_ended_by (Failed error name) = true
-
-abbrev pub has_ended : State → Bool
-has_ended s = has_ended_by s.status
-
-abbrev pub refused : World → List ℕ → World × List ℕ
-refused w text = (w, line text)
-
--- the statements of a program that have a block
+-- the statements that have a block: none of a program that is not built
 abbrev pub or_none : Option (List Statement) → List Statement
 or_none None = []
 or_none (Some ss) = ss
 
+-- the statements of a program that have a block
 abbrev pub statements_of : Tree → List Statement
 statements_of p = or_none (resolution_of p)
 
--- a run of the present program, if there is one
-abbrev pub run_in : Option Tree → ℕ → World → World × List ℕ
-run_in None k w = refused w (codes "no program")
-run_in (Some p) k w =
-    if has_ended w.state then refused w (codes "already ended")
-    else (record w { state = run_of (program_of (statements_of p)) k w.state }, run_reply (run_of (program_of (statements_of p)) k w.state))
+-- the present program ran, and left this state
+abbrev pub ran_reply : World → State → Reply
+ran_reply w next = machine_reply (record w { state = next }) (run_lines next)
 
--- the draft is listed, with its names
-abbrev pub listed_in : Option Tree → World → World × List ℕ
-listed_in None w = refused w (codes "no program")
-listed_in (Some p) w = (w, listing true p)
+-- a run over so many gates, where the program is not over
+abbrev pub run_reply : World → ℕ → Tree → Reply
+run_reply w k p =
+    if is_over (progress_of w.state.status) then refusal w (codes "already ended")
+    else ran_reply w (run_of (program_of (statements_of p)) k w.state)
 
--- what does not go into the code area
+-- ---- loads
+
+-- `loaded B blocks W words`: all blocks, and the sum of their charges
+abbrev pub loaded_line : List Statement → List ℕ
+loaded_line ss =
+    reply_line (codes "loaded " ++ (decimal (1 + length ss)
+    ++ (codes " blocks " ++ (decimal (program_charge + charges_of ss) ++ codes " words"))))
+
+-- what is told of blocks that do not go into the code area
 abbrev pub full_words : ℕ → List ℕ
 full_words words = codes "code full: " ++ (decimal words ++ codes " words")
 
+-- the same of the blocks of these statements
 abbrev pub full_text : List Statement → List ℕ
 full_text ss = full_words (program_charge + charges_of ss)
 
--- a world into which the blocks go, where they fit
-abbrev pub if_fits : List Statement → World → World × List ℕ → World × List ℕ
-if_fits ss w next = if nat_lt code_room (program_charge + charges_of ss) then refused w (full_text ss) else next
+-- a load is refused where the blocks do not fit
+abbrev pub if_fits : List Statement → World → Reply → Reply
+if_fits ss w reply =
+    if nat_lt code_room (program_charge + charges_of ss) then refusal w (full_text ss) else reply
 
--- the program is stopped at a statement
-abbrev pub is_halted_by : Status → Bool
-is_halted_by NotStarted = false
-is_halted_by Halted = true
-is_halted_by Ended = false
-is_halted_by (Failed error name) = false
-
-abbrev pub is_halted : State → Bool
-is_halted s = is_halted_by s.status
-
--- a program of these statements is loaded whole
+-- this program is the present one, and not started
 abbrev pub with_program : World → Tree → World
 with_program w p = record w { present = Some p; state = loaded_state }
 
--- the draft becomes the present program; not yet where the program is halted
-abbrev pub applied_to : World → Tree → List Statement → World × List ℕ
-applied_to w p ss = if is_halted w.state then refused w (codes "not built") else (with_program w p, loaded_reply ss)
+-- the machine is loaded with this program
+abbrev pub begun_reply : World → Tree → List Statement → Reply
+begun_reply w p ss = machine_reply (with_program w p) (loaded_line ss)
 
-abbrev pub applied_by : Option (List Statement) → World → Tree → World × List ℕ
-applied_by None w p = refused w (codes "not built")
-applied_by (Some ss) w p = if_fits ss w (applied_to w p ss)
+-- a text is loaded: the program is the present one and the draft
+abbrev pub load_reply : World → Tree → List Statement → Reply
+load_reply w p ss =
+    if_fits ss w (machine_reply (record (with_program w p) { draft = Some p }) (loaded_line ss))
 
-abbrev pub applied_in : Option Tree → World → World × List ℕ
-applied_in None w = refused w (codes "no program")
-applied_in (Some p) w = applied_by (resolution_of p) w p
+-- what comes of the end of a text, by what it turns out to be
+abbrev pub text_reply : World → Reading → Reply
+text_reply w TooLong = refusal w (codes "text too long")
+text_reply w NotBuilt = refusal w (codes "not built")
+text_reply w (Program p) = load_reply w p (statements_of p)
 
-abbrev pub fault_text : CommandFault → List ℕ
-fault_text LineTooLong = codes "line too long"
-fault_text NotACommand = codes "not a command"
-fault_text BadNumber = codes "bad number"
+-- not yet where the present program is stopped at a statement
+abbrev pub unless_halted : World → Reply → Reply
+unless_halted w reply =
+    if is_halted (progress_of w.state.status) then refusal w (codes "not built") else reply
 
--- a command line is obeyed; a `replace` is read with its statement, below
-abbrev pub obeyed : World → Asked → World × List ℕ
-obeyed w Blank = (w, [])
-obeyed w Load = (record w { mode = Loading [] }, [])
-obeyed w Listing = listed_in w.draft w
-obeyed w (Replace name text) = (w, [])
-obeyed w Apply = applied_in w.draft w
-obeyed w (Run k) = run_in w.present k w
-obeyed w Quit = (record w { mode = Over }, [])
-obeyed w Unbuilt = refused w (codes "not built")
-obeyed w (Bad fault) = refused w (fault_text fault)
+-- a program is refused that has a statement without a block
+abbrev pub if_built : Option (List Statement) → World → (List Statement → Reply) → Reply
+if_built None w reply = refusal w (codes "not built")
+if_built (Some ss) w reply = reply ss
 
--- why an edit is refused
+-- the draft becomes the present program
+abbrev pub apply_fitting : World → Tree → List Statement → Reply
+apply_fitting w p ss = if_fits ss w (unless_halted w (begun_reply w p ss))
+
+-- the draft becomes the present program, where all of it is built
+abbrev pub apply_reply : World → Tree → Reply
+apply_reply w p = if_built (resolution_of p) w (apply_fitting w p)
+
+-- ---- the draft
+
+-- the draft is listed, with its names
+abbrev pub list_reply : World → Tree → Reply
+list_reply w p = host_reply w (listing true p)
+
+-- why an edit is refused; none is for want of memory, where there is no reply at all
 abbrev pub edit_fault_text : EditFault → List ℕ
 edit_fault_text (edit.NoSuchName name) = codes "no such name " ++ decimal name.0
 edit_fault_text (edit.WrongKind name) = codes "wrong kind " ++ decimal name.0
@@ -199,57 +225,74 @@ edit_fault_text edit.TooDeep = codes "too deep"
 edit_fault_text edit.NamesSpent = codes "names spent"
 edit_fault_text edit.NoMemory = []
 
--- the draft is edited, or why not
-abbrev pub edited_to : World → ℕ → Result Tree EditFault → World × List ℕ
-edited_to w name (Ok p) = (record w { draft = Some p }, line (codes "edited " ++ decimal name))
-edited_to w name (Err fault) = refused w (edit_fault_text fault)
+-- what comes of an edit: another draft, or why not
+abbrev pub edit_reply : World → ℕ → Result Tree EditFault → Reply
+edit_reply w name (Ok p) =
+    host_reply (record w { draft = Some p }) (reply_line (codes "edited " ++ decimal name))
+edit_reply w name (Err fault) = refusal w (edit_fault_text fault)
 
-abbrev pub edited_in : Option Tree → World → ℕ → Stmt → World × List ℕ
-edited_in None w name s = refused w (codes "no program")
-edited_in (Some p) w name s = edited_to w name (replaced_program name s p)
+-- a statement is put in the place of another in this draft
+abbrev pub replace_reply : World → ℕ → Stmt → Tree → Reply
+replace_reply w name s p = edit_reply w name (replaced_program name s p)
 
 -- a statement is put in the place of another, where it is one of the forms that are built
-abbrev pub put_in : World → ℕ → Substitute → World × List ℕ
-put_in w name NoStatement = refused w (codes "not built")
-put_in w name (OneStatement s) = if is_built (variables_in w.draft) s then edited_in w.draft w name s else refused w (codes "not built")
+abbrev pub put_reply : World → ℕ → Substitute → Reply
+put_reply w name NoStatement = refusal w (codes "not built")
+put_reply w name (OneStatement s) =
+    if is_built (variables_in w.draft) s then if_program w.draft w (replace_reply w name s)
+    else refusal w (codes "not built")
 
--- a text is loaded: the program is the present one and the draft
-abbrev pub loaded : World → Tree → List Statement → World × List ℕ
-loaded w p ss = if_fits ss w (record (with_program w p) { draft = Some p }, loaded_reply ss)
+-- ---- all commands
 
-abbrev pub load_of : World → Reading → World × List ℕ
-load_of w TooLong = refused w (codes "text too long")
-load_of w NotBuilt = refused w (codes "not built")
-load_of w (Program p) = loaded w p (statements_of p)
+-- why a line is no command
+abbrev pub fault_text : CommandFault → List ℕ
+fault_text LineTooLong = codes "line too long"
+fault_text NotACommand = codes "not a command"
+fault_text BadNumber = codes "bad number"
+
+-- what comes of a command line; of a `replace` nothing here, since it is read with its statement (`Puts`)
+abbrev pub asked_reply : World → Asked → Reply
+asked_reply w Blank = host_reply w []
+asked_reply w Load = host_reply (record w { mode = Loading [] }) []
+asked_reply w Listing = if_program w.draft w (list_reply w)
+asked_reply w (Replace name text) = host_reply w []
+asked_reply w Apply = if_program w.draft w (apply_reply w)
+asked_reply w (Run k) = if_program w.present w (run_reply w k)
+asked_reply w Quit = host_reply (record w { mode = Over }) []
+asked_reply w Unbuilt = refusal w (codes "not built")
+asked_reply w (Bad fault) = refusal w (fault_text fault)
 
 -- a text has one line more
-abbrev pub longer : Mode → List ℕ → Mode
-longer (Loading text) line = Loading (text ++ (line ++ 10 ∷ []))
-longer other line = other
+abbrev pub with_line : Mode → List ℕ → Mode
+with_line (Loading text) line = Loading (text ++ (line ++ 10 ∷ []))
+with_line other line = other
 
--- the world after a command, and its reply
-unfoldable pub reply_of : World → Command → World × List ℕ
-reply_of w (Line c) = obeyed w c
-reply_of w (Puts name s) = put_in w name s
-reply_of w (TextLine line) = (record w { mode = longer w.mode line }, [])
-reply_of w (TextEnd reading) = load_of (record w { mode = Commands }) reading
-reply_of w Nothing = (w, [])
+-- what comes of a command
+unfoldable pub reply_of : World → Command → Reply
+reply_of w (Line asked) = asked_reply w asked
+reply_of w (Puts name s) = put_reply w name s
+reply_of w (TextLine line) = host_reply (record w { mode = with_line w.mode line }) []
+reply_of w (TextEnd reading) = text_reply (record w { mode = Commands }) reading
+reply_of w Nothing = host_reply w []
 
--- the replies to commands, and the world after them
+-- ---- scripts
+
+-- what is written of these commands, from this world on
 abbrev pub replies_from : World → List Command → List ℕ
 replies_from w [] = []
-replies_from w (c ∷ cs) = (reply_of w c).1 ++ replies_from (reply_of w c).0 cs
+replies_from w (c ∷ cs) = (reply_of w c).text ++ replies_from (reply_of w c).world cs
 
+-- the world after these commands
 abbrev pub world_after : World → List Command → World
 world_after w [] = w
-world_after w (c ∷ cs) = world_after (reply_of w c).0 cs
+world_after w (c ∷ cs) = world_after (reply_of w c).world cs
 
 -- from this world on, the lines are these commands
 abbrev pub ReadsAll : World → List (List ℕ) → List Command → Type 0
 ReadsAll w [] [] = Unit {0}
 ReadsAll w [] (c ∷ cs) = ⊥
 ReadsAll w (l ∷ ls) [] = ⊥
-ReadsAll w (l ∷ ls) (c ∷ cs) = Reads w.mode l c × ReadsAll (reply_of w c).0 ls cs
+ReadsAll w (l ∷ ls) (c ∷ cs) = Reads w.mode l c × ReadsAll (reply_of w c).world ls cs
 
 -- at the end of the script, a text that is still open is ended
 abbrev pub missing_end : Mode → List (List ℕ)
@@ -263,10 +306,13 @@ pub record AreCommands (lines : List (List ℕ)) (commands : List Command) : Typ
   pub last : List Command
   pub all : commands ≡ front ++ last
   pub read : ReadsAll empty_world lines front
-  pub ended : ReadsAll (world_after empty_world front) (missing_end (world_after empty_world front).mode) last
+  pub ended :
+      ReadsAll (world_after empty_world front) (missing_end (world_after empty_world front).mode) last
 
+-- what is written of a whole script of these commands
 abbrev pub transcript_of : List Command → List ℕ
 transcript_of commands = replies_from empty_world commands
 
+-- the world after a whole script of these commands
 abbrev pub last_world : List Command → World
 last_world commands = world_after empty_world commands

@@ -6,15 +6,15 @@ ghost use Rattle.simple_form.specs.Simple.{resolution_of};
 ghost use Rattle.dice_command.specs.Command.{Replace};
 ghost use Rattle.dice_session.specs.Reading.{OneStatement};
 ghost use Rattle.dice_session.specs.Readings.{AreNamed};
-ghost use Rattle.dice_session.specs.World.{World, Commands, listed_in, put_in, edited_in, applied_in, applied_by, edit_fault_text, line};
-ghost use Rattle.dice_session.specs.Lives.{Lives, Obeyed, Became};
+ghost use Rattle.dice_session.specs.World.{World, Commands, if_program, list_reply, put_reply, replace_reply, apply_reply, edit_fault_text, reply_line};
+ghost use Rattle.dice_session.specs.SessionOf.{IsSessionOf, Obeyed, Became};
 
 use crate::reading::read_statement;
 use crate::reply::{push_edited, push_full, refuse, refuse_edit};
-use crate::session::{CODE_ROOM, Session};
+use crate::session::Session;
 use dice_base::{Name, NoMemory, Text};
 use pascal_print::print_program;
-use pascal_semantics::{Statement, code_words};
+use pascal_semantics::{MAX_PROGRAM_WORDS, Statement, code_words};
 use pascal_tree::Stmt;
 use pdp11_machine::Machine;
 use simple_form::{is_built, resolve_program};
@@ -24,7 +24,8 @@ use tree_edit::replace;
 impl Session {
     /// Lists the draft, with its names.
     pub(crate) fn list(&mut self, alloc: Global, out: &mut Text) -> Result<(), NoMemory>
-        ensures { OnOk result ((w : World) (machine : MachineState) → Lives w self.old machine → Became (listed_in w.draft w) out.old out.new self.new machine) }
+        ensures { OnOk result ((w : World) (machine : MachineState) → IsSessionOf w self.old machine
+            → Became (if_program w.draft w (list_reply w)) out.old out.new machine self.new machine) }
     {
         let Some(draft) = &self.draft else {
             return refuse(alloc, out, b"no program");
@@ -42,7 +43,8 @@ impl Session {
         out: &mut Text,
     ) -> Result<(), NoMemory>
         requires { length text.now ≤ 4096 }
-        ensures { OnOk result ((w : World) (machine : MachineState) → Lives w self.old machine → Obeyed w (Replace name text.now) out.old out.new self.new machine) }
+        ensures { OnOk result ((w : World) (machine : MachineState) → IsSessionOf w self.old machine
+            → Obeyed w (Replace name text.now) out.old out.new machine self.new machine) }
     {
         match read_statement(alloc, text)? {
             None => refuse(alloc, out, b"not built"),
@@ -51,7 +53,8 @@ impl Session {
     }
 
     fn put(&mut self, alloc: Global, name: u32, stmt: &Stmt, out: &mut Text) -> Result<(), NoMemory>
-        ensures { OnOk result ((w : World) (machine : MachineState) → Lives w self.old machine → Became (put_in w name (OneStatement stmt.now)) out.old out.new self.new machine) }
+        ensures { OnOk result ((w : World) (machine : MachineState) → IsSessionOf w self.old machine
+            → Became (put_reply w name (OneStatement stmt.now)) out.old out.new machine self.new machine) }
     {
         if is_built(alloc, self.draft.as_ref(), stmt)? {
             self.edit(alloc, name, stmt, out)
@@ -67,7 +70,9 @@ impl Session {
         stmt: &Stmt,
         out: &mut Text,
     ) -> Result<(), NoMemory>
-        ensures { OnOk result ((w : World) (machine : MachineState) → Lives w self.old machine → Became (edited_in w.draft w name stmt.now) out.old out.new self.new machine) }
+        ensures { OnOk result ((w : World) (machine : MachineState) → IsSessionOf w self.old machine
+            → Became (if_program w.draft w (replace_reply w name stmt.now)) out.old out.new
+            machine self.new machine) }
     {
         let Some(draft) = &mut self.draft else {
             return refuse(alloc, out, b"no program");
@@ -85,7 +90,8 @@ impl Session {
         machine: &mut Machine,
         out: &mut Text,
     ) -> Result<(), NoMemory>
-        ensures { OnOk result ((w : World) → Lives w self.old machine.old → w.mode ≡ Commands → Became (applied_in w.draft w) out.old out.new self.new machine.new) }
+        ensures { OnOk result ((w : World) → IsSessionOf w self.old machine.old → w.mode ≡ Commands
+            → Became (if_program w.draft w (apply_reply w)) out.old out.new machine.old self.new machine.new) }
     {
         let Some(draft) = &self.draft else {
             return refuse(alloc, out, b"no program");
@@ -104,11 +110,12 @@ impl Session {
         out: &mut Text,
     ) -> Result<(), NoMemory>
         requires { AreNamed statements.items }
-        ensures { OnOk result ((w : World) (p : Tree) → Lives w self.old machine.old → w.mode ≡ Commands → resolution_of p ≡ Some statements.items
-            → Became (applied_by (resolution_of p) w p) out.old out.new self.new machine.new) }
+        ensures { OnOk result ((w : World) (p : Tree) → IsSessionOf w self.old machine.old
+            → w.mode ≡ Commands → resolution_of p ≡ Some statements.items
+            → Became (apply_reply w p) out.old out.new machine.old self.new machine.new) }
     {
         let words = code_words(&statements);
-        if words > CODE_ROOM {
+        if words > MAX_PROGRAM_WORDS {
             return push_full(alloc, out, words);
         }
         if self.progress.is_halted() {

@@ -9,8 +9,6 @@ mod reading;
 mod reply;
 mod running;
 mod session;
-#[cfg(test)]
-mod tests;
 mod text;
 
 pub use session::Session;

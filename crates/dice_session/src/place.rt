@@ -4,10 +4,8 @@ ghost use Rattle.pascal_semantics.specs.Charge.{program_charge, charges_of};
 ghost use Rattle.pascal_semantics.specs.Valid.{code_room};
 ghost use Rattle.dice_session.specs.Places.{name_at};
 
+use console_service::CODE_WORD;
 use pascal_semantics::{PROGRAM_CHARGE, Statement, charge};
-
-/// The word number at which the code area begins.
-const CODE_BEGIN: u32 = 256;
 
 /// The name of the program itself.
 const PROGRAM: u32 = 1;
@@ -19,7 +17,7 @@ pub(crate) fn name_at(statements: &[Statement], place: u32) -> u32
     requires { program_charge + charges_of statements.now ≤ code_room }
     ensures { result ≡ name_at statements.now place }
 {
-    let mut finish = CODE_BEGIN + PROGRAM_CHARGE;
+    let mut finish = CODE_WORD as u32 + PROGRAM_CHARGE;
     if place < finish {
         return PROGRAM;
     }

@@ -40,7 +40,8 @@ pub(crate) fn read_program(alloc: Global, text: &[u8]) -> Result<Found, NoMemory
 
 // What a text turns out to be that has no tokens.
 fn without_tokens(fault: ScanFault) -> Result<Found, NoMemory>
-    ensures reading { (text : List ℕ) → (fault ≡ TextTooLong ↔ (65536 < length text)) → Reports fault text → IfOk result (λ found. IsReading text (reading_of found)) }
+    ensures reading { (text : List ℕ) → (fault ≡ TextTooLong ↔ (65536 < length text)) → Reports fault text
+        → IfOk result (λ found. IsReading text (reading_of found)) }
     ensures found { IfOk result HasFound }
 {
     match fault {

@@ -4,8 +4,8 @@ ghost use Rattle.std.specs.Fmt.{decimal};
 ghost use Rattle.tree_edit.specs.declared.fault.EditFault.TheVariants.{NoMemory as WantsMemory};
 ghost use Rattle.pascal_semantics.specs.Charge.{program_charge, charges_of};
 ghost use Rattle.pascal_semantics.specs.Valid.{code_room};
-ghost use Rattle.dice_session.specs.World.{line, loaded_reply, written_part, full_words, edit_fault_text};
-ghost use Rattle.dice_session.specs.Places.{ending_told};
+ghost use Rattle.dice_session.specs.World.{reply_line, loaded_line, written_part, full_words, edit_fault_text};
+ghost use Rattle.dice_session.specs.Places.{ending_text};
 
 use crate::place::name_at;
 use dice_base::{Name, NoMemory, Text, push_decimal};
@@ -22,7 +22,7 @@ pub(crate) fn push_loaded(
     words: usize,
 ) -> Result<(), NoMemory>
     requires { words ≡ program_charge + charges_of statements.now }
-    ensures { OnOk result (out.new ≡ out.old ++ loaded_reply statements.now) }
+    ensures { OnOk result (out.new ≡ out.old ++ loaded_line statements.now) }
 {
     out.append(alloc, b"loaded ")?;
     push_decimal(alloc, out, 1 + statements.len() as u64)?;
@@ -33,7 +33,7 @@ pub(crate) fn push_loaded(
 
 /// A reply of one line.
 pub(crate) fn refuse(alloc: Global, out: &mut Text, text: &[u8]) -> Result<(), NoMemory>
-    ensures { OnOk result (out.new ≡ out.old ++ line text.now) }
+    ensures { OnOk result (out.new ≡ out.old ++ reply_line text.now) }
 {
     out.append(alloc, text)?;
     out.push(alloc, b'\n')
@@ -41,7 +41,7 @@ pub(crate) fn refuse(alloc: Global, out: &mut Text, text: &[u8]) -> Result<(), N
 
 /// `code full: W words`.
 pub(crate) fn push_full(alloc: Global, out: &mut Text, words: u64) -> Result<(), NoMemory>
-    ensures { OnOk result (out.new ≡ out.old ++ line (full_words words)) }
+    ensures { OnOk result (out.new ≡ out.old ++ reply_line (full_words words)) }
 {
     out.append(alloc, b"code full: ")?;
     push_decimal(alloc, out, words)?;
@@ -50,7 +50,7 @@ pub(crate) fn push_full(alloc: Global, out: &mut Text, words: u64) -> Result<(),
 
 /// `edited N`.
 pub(crate) fn push_edited(alloc: Global, out: &mut Text, name: u32) -> Result<(), NoMemory>
-    ensures { OnOk result (out.new ≡ out.old ++ line (codes "edited " ++ decimal name)) }
+    ensures { OnOk result (out.new ≡ out.old ++ reply_line (codes "edited " ++ decimal name)) }
 {
     out.append(alloc, b"edited ")?;
     push_decimal(alloc, out, u64::from(name))?;
@@ -58,7 +58,7 @@ pub(crate) fn push_edited(alloc: Global, out: &mut Text, name: u32) -> Result<()
 }
 
 fn push_named(alloc: Global, out: &mut Text, text: &[u8], name: Name) -> Result<(), NoMemory>
-    ensures { OnOk result (out.new ≡ out.old ++ line (text.now ++ decimal name.0)) }
+    ensures { OnOk result (out.new ≡ out.old ++ reply_line (text.now ++ decimal name.0)) }
 {
     out.append(alloc, text)?;
     push_decimal(alloc, out, u64::from(name.0))?;
@@ -67,7 +67,7 @@ fn push_named(alloc: Global, out: &mut Text, text: &[u8], name: Name) -> Result<
 
 /// Why an edit is refused.
 pub(crate) fn refuse_edit(alloc: Global, out: &mut Text, fault: EditFault) -> Result<(), NoMemory>
-    ensures value { OnOk result (out.new ≡ out.old ++ line (edit_fault_text fault)) }
+    ensures value { OnOk result (out.new ≡ out.old ++ reply_line (edit_fault_text fault)) }
     ensures told { OnOk result (¬ (fault ≡ WantsMemory)) }
 {
     match fault {
@@ -108,7 +108,7 @@ pub(crate) fn push_ending(
     place: u32,
 ) -> Result<(), NoMemory>
     requires { program_charge + charges_of statements.now ≤ code_room }
-    ensures { OnOk result (out.new ≡ out.old ++ ending_told statements.now end place) }
+    ensures { OnOk result (out.new ≡ out.old ++ ending_text statements.now end place) }
 {
     match end {
         GoEnd::Counted | GoEnd::AtBreak => {

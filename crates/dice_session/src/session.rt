@@ -7,8 +7,8 @@ ghost use Rattle.simple_form.specs.Simple.{resolution_of};
 ghost use Rattle.pascal_semantics.specs.Valid.{IsProgram};
 ghost use Rattle.dice_command.specs.Command.{asked, Blank, Load, Quit, IsWellRead};
 ghost use Rattle.dice_session.specs.Readings.{AreNamed, AreStatements};
-ghost use Rattle.dice_session.specs.World.{World, Commands, Loading, empty_world, missing_end, obeyed, loaded, run_in, line, end_line, fault_text, with_program, loaded_reply, full_text};
-ghost use Rattle.dice_session.specs.Lives.{Lives, Replied, Obeyed, Became, IsOver, ending_if, kept_text};
+ghost use Rattle.dice_session.specs.World.{World, Commands, Loading, empty_world, missing_end, asked_reply, load_reply, if_program, run_reply, reply_line, end_line, fault_text, begun_reply, full_text};
+ghost use Rattle.dice_session.specs.SessionOf.{IsSessionOf, Replied, Obeyed, Became, IsOver, ending_if, kept_text};
 ghost use Rattle.dice_session.specs.Texts.{ReadsText};
 
 use crate::loading::load;
@@ -16,17 +16,14 @@ use crate::progress::{Progress, progress_after};
 use crate::reading::{Found, read_program};
 use crate::reply::{push_full, refuse};
 use crate::running::run;
-use crate::text::longer;
+use crate::text::with_line;
 use console_service::Console;
 use dice_base::{NoMemory, Text};
 use dice_command::{CommandFault, LineCommand, parse_command};
-use pascal_semantics::{Statement, code_words};
+use pascal_semantics::{MAX_PROGRAM_WORDS, Statement, code_words};
 use pdp11_machine::Machine;
 use program_tree::Program;
 use std::alloc::Global;
-
-/// The words of the code area.
-pub(crate) const CODE_ROOM: u64 = 10_240;
 
 /// A session: the present program, the draft, and what the next line of the script is. The program's state is that of
 /// the machine and the console.
@@ -47,7 +44,7 @@ pub struct Session {
 impl Session {
     /// A session before its first line. There is no program, and the machine was not used.
     pub fn new(alloc: Global) -> Result<Session, NoMemory>
-        ensures { IfOk result (λ session. Lives empty_world session zero_machine) }
+        ensures { IfOk result (λ session. IsSessionOf empty_world session zero_machine) }
     {
         Ok(Session {
             console: Console::new(alloc)?,
@@ -61,14 +58,16 @@ impl Session {
 
     /// Whether `quit` was read.
     pub fn is_over(&self) -> bool
-        ensures { (w : World) (machine : MachineState) → Lives w self.now machine → IsOver result w.mode }
+        ensures { (w : World) (machine : MachineState) → IsSessionOf w self.now machine
+            → IsOver result w.mode }
     {
         self.over
     }
 
     /// Whether a text that is to be loaded still wants its end line.
     pub fn is_loading(&self) -> bool
-        ensures { (w : World) (machine : MachineState) → Lives w self.now machine → missing_end w.mode ≡ ending_if result }
+        ensures { (w : World) (machine : MachineState) → IsSessionOf w self.now machine
+            → missing_end w.mode ≡ ending_if result }
     {
         self.text.is_some()
     }
@@ -83,8 +82,9 @@ impl Session {
         out: &mut Text,
     ) -> Result<(), NoMemory>
         // The session and the machine are those of some world.
-        requires { (w : World) × Lives w self.old machine.old }
-        ensures { OnOk result ((w : World) (l : List ℕ) → Lives w self.old machine.old → SameFront l line.now → Replied w l out.old out.new self.new machine.new) }
+        requires { (w : World) × IsSessionOf w self.old machine.old }
+        ensures { OnOk result ((w : World) (l : List ℕ) → IsSessionOf w self.old machine.old
+            → SameFront l line.now → Replied w l out.old out.new machine.old self.new machine.new) }
     {
         if self.over {
             return Ok(());
@@ -106,13 +106,15 @@ impl Session {
     ) -> Result<(), NoMemory>
         requires short { length text.items ≤ kept_text }
         requires closed { self.old.text ≡ None }
-        ensures { OnOk result ((w : World) (t l : List ℕ) → Lives (record w { mode = Commands }) self.old machine.old → w.mode ≡ Loading t → text.items ≡ take kept_text t → SameFront l line.now
-            → Replied w l out.old out.new self.new machine.new) }
+        ensures { OnOk result ((w : World) (t l : List ℕ)
+            → IsSessionOf (record w { mode = Commands }) self.old machine.old → w.mode ≡ Loading t
+            → text.items ≡ take kept_text t → SameFront l line.now
+            → Replied w l out.old out.new machine.old self.new machine.new) }
     {
         if is_end(line) {
             return self.end_text(alloc, &text, machine, out);
         }
-        let text = longer(text, line)?;
+        let text = with_line(text, line)?;
         self.text = Some(text);
         Ok(())
     }
@@ -125,8 +127,9 @@ impl Session {
         out: &mut Text,
     ) -> Result<(), NoMemory>
         requires well_read { IsWellRead (asked command) }
-        requires lives { (w : World) × Lives w self.old machine.old }
-        ensures { OnOk result ((w : World) → Lives w self.old machine.old → w.mode ≡ Commands → Obeyed w (asked command.entry) out.old out.new self.new machine.new) }
+        requires lives { (w : World) × IsSessionOf w self.old machine.old }
+        ensures { OnOk result ((w : World) → IsSessionOf w self.old machine.old → w.mode ≡ Commands
+            → Obeyed w (asked command.entry) out.old out.new machine.old self.new machine.new) }
     {
         match command {
             LineCommand::Blank => self.idle(),
@@ -143,21 +146,24 @@ impl Session {
 
     // A line of blanks.
     fn idle(&mut self) -> Result<(), NoMemory>
-        ensures { OnOk result ((w : World) (out : List ℕ) (machine : MachineState) → Lives w self.old machine → Became (obeyed w Blank) out out self.new machine) }
+        ensures { OnOk result ((w : World) (out : List ℕ) (machine : MachineState)
+            → IsSessionOf w self.old machine → Became (asked_reply w Blank) out out machine self.new machine) }
     {
         Ok(())
     }
 
     // The lines that follow are a text.
     fn open_text(&mut self, alloc: Global) -> Result<(), NoMemory>
-        ensures { OnOk result ((w : World) (out : List ℕ) (machine : MachineState) → Lives w self.old machine → w.mode ≡ Commands → Became (obeyed w Load) out out self.new machine) }
+        ensures { OnOk result ((w : World) (out : List ℕ) (machine : MachineState)
+            → IsSessionOf w self.old machine → w.mode ≡ Commands → Became (asked_reply w Load) out out machine self.new machine) }
     {
         self.text = Some(Vec::new(alloc));
         Ok(())
     }
 
     fn quit(&mut self) -> Result<(), NoMemory>
-        ensures { OnOk result ((w : World) (out : List ℕ) (machine : MachineState) → Lives w self.old machine → w.mode ≡ Commands → Became (obeyed w Quit) out out self.new machine) }
+        ensures { OnOk result ((w : World) (out : List ℕ) (machine : MachineState)
+            → IsSessionOf w self.old machine → w.mode ≡ Commands → Became (asked_reply w Quit) out out machine self.new machine) }
     {
         self.over = true;
         Ok(())
@@ -171,8 +177,9 @@ impl Session {
         out: &mut Text,
     ) -> Result<(), NoMemory>
         requires some { 1 ≤ gates }
-        requires lives { (w : World) × Lives w self.old machine.old }
-        ensures { OnOk result ((w : World) → Lives w self.old machine.old → w.mode ≡ Commands → Became (run_in w.present gates w) out.old out.new self.new machine.new) }
+        requires lives { (w : World) × IsSessionOf w self.old machine.old }
+        ensures { OnOk result ((w : World) → IsSessionOf w self.old machine.old → w.mode ≡ Commands
+            → Became (if_program w.present w (run_reply w gates)) out.old out.new machine.old self.new machine.new) }
     {
         let Some(statements) = &self.program else {
             return refuse(alloc, out, b"no program");
@@ -193,7 +200,9 @@ impl Session {
         machine: &mut Machine,
         out: &mut Text,
     ) -> Result<(), NoMemory>
-        ensures { OnOk result ((w : World) (t : List ℕ) → Lives w self.old machine.old → w.mode ≡ Commands → text.now ≡ take kept_text t → ReadsText w t out.old out.new self.new machine.new) }
+        ensures { OnOk result ((w : World) (t : List ℕ) → IsSessionOf w self.old machine.old
+            → w.mode ≡ Commands → text.now ≡ take kept_text t
+            → ReadsText w t out.old out.new machine.old self.new machine.new) }
     {
         match read_program(alloc, text)? {
             Found::TooLong => refuse(alloc, out, b"text too long"),
@@ -214,10 +223,11 @@ impl Session {
         out: &mut Text,
     ) -> Result<(), NoMemory>
         requires { AreStatements program statements.items }
-        ensures { OnOk result ((w : World) → Lives w self.old machine.old → w.mode ≡ Commands → Became (loaded w program statements.items) out.old out.new self.new machine.new) }
+        ensures { OnOk result ((w : World) → IsSessionOf w self.old machine.old → w.mode ≡ Commands
+            → Became (load_reply w program statements.items) out.old out.new machine.old self.new machine.new) }
     {
         let words = code_words(&statements);
-        if words > CODE_ROOM {
+        if words > MAX_PROGRAM_WORDS {
             return push_full(alloc, out, words);
         }
         self.begin(alloc, statements, machine, out)?;
@@ -234,8 +244,9 @@ impl Session {
         out: &mut Text,
     ) -> Result<(), NoMemory>
         requires { IsProgram statements.items }
-        ensures { OnOk result ((w : World) (p : Tree) → Lives w self.old machine.old → w.mode ≡ Commands → resolution_of p ≡ Some statements.items
-            → Became (with_program w p, loaded_reply statements.items) out.old out.new self.new machine.new) }
+        ensures { OnOk result ((w : World) (p : Tree) → IsSessionOf w self.old machine.old
+            → w.mode ≡ Commands → resolution_of p ≡ Some statements.items
+            → Became (begun_reply w p statements.items) out.old out.new machine.old self.new machine.new) }
     {
         load(alloc, &statements, machine, &mut self.console, out)?;
         self.program = Some(statements);

@@ -1,6 +1,6 @@
 //! The text that is to be loaded, line by line.
 ghost use Rattle.std.specs.Prelude.{◌≡◌, ◌≤◌, ◌++◌, [], ◌∷◌, length, take, IfOk, OnOk};
-ghost use Rattle.dice_session.specs.Lives.{kept_text};
+ghost use Rattle.dice_session.specs.SessionOf.{kept_text};
 
 use dice_base::NoMemory;
 
@@ -8,7 +8,7 @@ use dice_base::NoMemory;
 const KEPT_TEXT: usize = 65_537;
 
 /// The text with one line more, and its line feed. No more than a front of it is kept.
-pub(crate) fn longer(text: Vec<u8>, line: &[u8]) -> Result<Vec<u8>, NoMemory>
+pub(crate) fn with_line(text: Vec<u8>, line: &[u8]) -> Result<Vec<u8>, NoMemory>
     requires { length text.items ≤ kept_text }
     ensures { IfOk result (λ more. more.items ≡ take kept_text (take kept_text (text.items ++ line.now) ++ 10 ∷ [])) }
 {

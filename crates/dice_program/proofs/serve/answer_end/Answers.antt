@@ -1,6 +1,6 @@
 use Rattle.std.proofs.Common.{subst, sym, refl, ap, ◌∙◌, List, ℕ}
 use Rattle.dice_session.specs.World.{end_line}
-use Rattle.dice_session.specs.Lives.{ending_if}
+use Rattle.dice_session.specs.SessionOf.{ending_if}
 use Rattle.dice_program.specs.Turns.{AnswersSome}
 use Rattle.dice_program.proofs.Turns.{some-answered}
 use Rattle.dice_program.proofs.serve.answer_end.Goals as goal

@@ -1,7 +1,7 @@
 use Rattle.std.proofs.Common.{◌-◌, ℕ, subst, sym, refl, ◌∙◌, arith}
 use Rattle.std.proofs.lemmas.Result.{err_from_is_err_and}
 use Rattle.dice_session.specs.World.{empty_world}
-use Rattle.dice_session.specs.Lives.{Lives}
+use Rattle.dice_session.specs.SessionOf.{IsSessionOf}
 use Rattle.dice_program.proofs.Exits.{short-start, done-quit, closed-done, closed-fails, too-far, too-many}
 use Rattle.dice_program.proofs.Serving.{Serving, serving-start, serving-turn}
 use Rattle.dice_program.proofs.Whole.{turn-fails, turn-closes, unanswered, final-fails, final-closes}
@@ -14,7 +14,7 @@ returns-in_err-session-clause-serves g c =
 
 pub loop-turn-init : goal.loop-turn-init
 loop-turn-init g c = record {
-  serving = serving-start _ _ _ _ (subst (Lives empty_world c.in_ok-session.session) (sym c.requires.unused) c.in_ok-session.ensures);
+  serving = serving-start _ _ _ _ (subst (IsSessionOf empty_world c.in_ok-session.session) (sym c.requires.unused) c.in_ok-session.ensures);
   source = refl;
   sink = refl;
 }
@@ -30,7 +30,7 @@ pub returns-in-Quit-clause-serves : goal.returns-in-Quit-clause-serves
 returns-in-Quit-clause-serves g c =
     let s = c.loop-turn.invariant.serving in
     let t = (rw c.in-Quit.is at c.in_ok-take_turn.ensures.turns) _ s.lives in
-    done-quit _ _ _ _ _ _ _ _ _ _ _ _ _ _ s t.0 t.1 t.2 (omega (arith, c.loop-turn-test.true, c.loop-turn.auto._turn)) (λ w lives. lives.stands)
+    done-quit _ _ _ _ _ _ _ _ _ _ _ _ _ _ s t.0 t.1 t.2 (omega (arith, c.loop-turn-test.true, c.loop-turn.auto._turn)) (λ w lives. lives.simulates)
 
 pub returns-in_err-answer_end-in-Last-clause-serves : goal.returns-in_err-answer_end-in-Last-clause-serves
 returns-in_err-answer_end-in-Last-clause-serves g c =
@@ -38,20 +38,20 @@ returns-in_err-answer_end-in-Last-clause-serves g c =
     let t = (rw c.in-Last.is at c.in_ok-take_turn.ensures.turns) _ s.lives in
     let e = turn-closes _ _ _ _ _ _ _ _ _ _ s (omega (arith, c.loop-turn-test.true, c.loop-turn.auto._turn)) t.0 t.1 in
     let p = err_from_is_err_and c.from_residual-in_err-answer_end-in-Last.result c.from_residual-in_err-answer_end-in-Last.ensures.1 in
-    rw (p.1, p.2) (closed-fails c.in_err-answer_end-in-Last.field-0.0 _ _ _ _ _ _ _ _ _ _ _ _ _ e (c.in_err-answer_end-in-Last.ensures.answers _ e.lives) (λ w lives. lives.stands))
+    rw (p.1, p.2) (closed-fails c.in_err-answer_end-in-Last.field-0.0 _ _ _ _ _ _ _ _ _ _ _ _ _ e (c.in_err-answer_end-in-Last.ensures.answers _ e.lives) (λ w lives. lives.simulates))
 
 pub returns-in-Last-clause-serves : goal.returns-in-Last-clause-serves
 returns-in-Last-clause-serves g c =
     let s = c.loop-turn.invariant.serving in
     let t = (rw c.in-Last.is at c.in_ok-take_turn.ensures.turns) _ s.lives in
     let e = turn-closes _ _ _ _ _ _ _ _ _ _ s (omega (arith, c.loop-turn-test.true, c.loop-turn.auto._turn)) t.0 t.1 in
-    closed-done _ _ _ _ _ _ _ _ _ _ _ _ _ e (c.in_ok-answer_end-in-Last.ensures.answers _ e.lives) (λ w lives. lives.stands)
+    closed-done _ _ _ _ _ _ _ _ _ _ _ _ _ e (c.in_ok-answer_end-in-Last.ensures.answers _ e.lives) (λ w lives. lives.simulates)
 
 pub returns-in-TooFar-clause-serves : goal.returns-in-TooFar-clause-serves
 returns-in-TooFar-clause-serves g c =
     let s = c.loop-turn.invariant.serving in
     let t = (rw c.in-TooFar.is at c.in_ok-take_turn.ensures.turns) _ s.lives in
-    too-far _ _ _ _ _ _ _ _ _ _ _ _ _ _ s t.0 (omega (arith, c.loop-turn-test.true, c.loop-turn.auto._turn)) t.1 (λ w lives. lives.stands)
+    too-far _ _ _ _ _ _ _ _ _ _ _ _ _ _ s t.0 (omega (arith, c.loop-turn-test.true, c.loop-turn.auto._turn)) t.1 (λ w lives. lives.simulates)
 
 pub loop-turn-preserved : goal.loop-turn-preserved
 loop-turn-preserved g c =
@@ -77,15 +77,15 @@ returns-in_err-answer_end-in-Done-clause-serves g c =
     let s = c.loop-turn.invariant.serving in
     let e = final-closes _ _ _ _ _ _ _ s (omega (arith, c.loop-turn-test.false, c.loop-turn.auto._turn-end, c.loop-turn.auto._turn)) (rw c.in-Done.is at c.in_ok-final_turn.ensures.finals) in
     let p = err_from_is_err_and c.from_residual-in_err-answer_end-in-Done.result c.from_residual-in_err-answer_end-in-Done.ensures.1 in
-    rw (p.1, p.2) (closed-fails c.in_err-answer_end-in-Done.field-0.0 _ _ _ _ _ _ _ _ _ _ _ _ _ e (c.in_err-answer_end-in-Done.ensures.answers _ e.lives) (λ w lives. lives.stands))
+    rw (p.1, p.2) (closed-fails c.in_err-answer_end-in-Done.field-0.0 _ _ _ _ _ _ _ _ _ _ _ _ _ e (c.in_err-answer_end-in-Done.ensures.answers _ e.lives) (λ w lives. lives.simulates))
 
 pub returns-in-Done-clause-serves : goal.returns-in-Done-clause-serves
 returns-in-Done-clause-serves g c =
     let s = c.loop-turn.invariant.serving in
     let e = final-closes _ _ _ _ _ _ _ s (omega (arith, c.loop-turn-test.false, c.loop-turn.auto._turn-end, c.loop-turn.auto._turn)) (rw c.in-Done.is at c.in_ok-final_turn.ensures.finals) in
-    closed-done _ _ _ _ _ _ _ _ _ _ _ _ _ e (c.in_ok-answer_end-in-Done.ensures.answers _ e.lives) (λ w lives. lives.stands)
+    closed-done _ _ _ _ _ _ _ _ _ _ _ _ _ e (c.in_ok-answer_end-in-Done.ensures.answers _ e.lives) (λ w lives. lives.simulates)
 
 pub returns-clause-serves : goal.returns-clause-serves
 returns-clause-serves g c =
     let s = c.loop-turn.invariant.serving in
-    too-many _ _ _ _ _ _ _ _ _ _ _ _ _ _ s (rw c.in-TooMany.is at c.in_ok-final_turn.ensures.finals) (omega (arith, c.loop-turn-test.false, c.loop-turn.auto._turn-end, c.loop-turn.auto._turn)) (unanswered _ _ _ _ _ _ _ _ s) (λ w lives. lives.stands)
+    too-many _ _ _ _ _ _ _ _ _ _ _ _ _ _ s (rw c.in-TooMany.is at c.in_ok-final_turn.ensures.finals) (omega (arith, c.loop-turn-test.false, c.loop-turn.auto._turn-end, c.loop-turn.auto._turn)) (unanswered _ _ _ _ _ _ _ _ s) (λ w lives. lives.simulates)

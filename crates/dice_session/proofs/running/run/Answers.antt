@@ -1,6 +1,6 @@
 use Rattle.std.proofs.Common.{◌++◌, ◌/◌, Bool, subst, sym, ap, ◌∙◌}
 use Rattle.dice_session.specs.World.{written_part}
-use Rattle.dice_session.specs.Places.{ending_told}
+use Rattle.dice_session.specs.Places.{ending_text}
 use Rattle.dice_session.specs.Simulates.{Ran}
 use Rattle.dice_session.proofs.After.{ran}
 use Rattle.dice_session.proofs.running.run.Goals as goal
@@ -13,5 +13,5 @@ returns c = λ s can.
     subst (λ (over : Bool). Ran fs c.args.gates s over c.args.out.now c.push_ending.new.out c.go-went.new.machine c.drained.new.console) (sym c.ends.ensures)
     (ran fs c.args.gates s c.args.machine.now c.args.console.now c.args.out.now c.push_ending.new.out (c.go-went.new.machine, c.go-went.new.console, c.go-went.result) c.drained.new.console
     c.requires.program c.requires.some c.go-went.ensures c.register.ensures.machine.memory_length c.in_ok-written.ensures.empty
-    (c.in_ok-push_ending.ensures ∙ ap (λ o. o ++ ending_told fs c.go-went.result.end (c.register.result / 2)) written ∙ ap (λ w. (c.args.out.now ++ written_part c.go-went.new.console.output) ++ ending_told fs c.go-went.result.end (w / 2)) c.register.ensures.word)
+    (c.in_ok-push_ending.ensures ∙ ap (λ o. o ++ ending_text fs c.go-went.result.end (c.register.result / 2)) written ∙ ap (λ w. (c.args.out.now ++ written_part c.go-went.new.console.output) ++ ending_text fs c.go-went.result.end (w / 2)) c.register.ensures.word)
     can)

@@ -5,7 +5,7 @@ use Rattle.dice_session.proofs.session.Session.read_on.Goals as goal
 
 pub returns-then-is_end : goal.returns-then-is_end
 returns-then-is_end c = on_ok c.end_text.result c.end_text.ensures (λ f w t l lives mode is same.
-    end-replied w t l c.args.line.now _ _ _ _ (f (record w { mode = Commands }) t lives refl (c.deref.ensures.value ∙ is)) mode same (sym c.is_end.ensures ∙ c.if-is_end.true))
+    end-replied w t l c.args.line.now _ _ _ _ _ (f (record w { mode = Commands }) t lives refl (c.deref.ensures.value ∙ is)) mode same (sym c.is_end.ensures ∙ c.if-is_end.true))
 
 pub returns : goal.returns
 returns c = λ w t l lives mode is same.
