@@ -1,4 +1,5 @@
 //! The words of blocks, and of a whole load.
+ghost use Rattle.pascal_semantics.specs.Valid.{IsForm};
 
 use console_service::BlockCode;
 use dice_base::{LinkTo, NoMemory};
@@ -10,6 +11,11 @@ use std::test::Fail;
 
 const SEVEN: Sum = Sum {
     first: Operand::Number(7),
+    second: None,
+};
+
+const FIRST: Sum = Sum {
+    first: Operand::Global(0),
     second: None,
 };
 
@@ -38,19 +44,18 @@ fn assigns_a_sum(alloc: Global) -> Result<bool, NoMemory> {
     Ok(is_code(&code, 64, &front, 14, LinkTo::Next))
 }
 
+// A line with the first variable, of a form with a width or without.
 fn writes_a_line(
     alloc: Global,
-    width: Option<u8>,
-    written: u16,
+    form: &SimpleForm,
+    width: u16,
     charge: usize,
-) -> Result<bool, NoMemory> {
-    let value = Sum {
-        first: Operand::Global(0),
-        second: None,
-    };
-    let code = emit_simple(alloc, &SimpleForm::WriteLine(value, width))?;
+) -> Result<bool, NoMemory>
+    requires { IsForm form.now }
+{
+    let code = emit_simple(alloc, form)?;
     let front = [
-        0o000240, 0o013746, 0o065000, 0o012600, 0o012701, written, 0o104004, 0o104010, 0o000137, 0,
+        0o000240, 0o013746, 0o065000, 0o012600, 0o012701, width, 0o104004, 0o104010, 0o000137, 0,
     ];
     Ok(is_code(&code, charge, &front, 9, LinkTo::Next))
 }
@@ -100,8 +105,8 @@ fn loads_in_text_order(alloc: Global) -> Result<bool, NoMemory> {
 fn blocks_have_their_words(rt: HostRuntime) -> Result<(), Fail> {
     let found = [
         assigns_a_sum(rt.alloc())?,
-        writes_a_line(rt.alloc(), None, 8, 52)?,
-        writes_a_line(rt.alloc(), Some(255), 255, 56)?,
+        writes_a_line(rt.alloc(), &SimpleForm::WriteLine(FIRST, None), 8, 52)?,
+        writes_a_line(rt.alloc(), &SimpleForm::WriteLine(FIRST, Some(255)), 255, 56)?,
         makes_the_frame(rt.alloc())?,
         loads_in_text_order(rt.alloc())?,
     ];
