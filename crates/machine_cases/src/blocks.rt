@@ -106,7 +106,12 @@ fn blocks_have_their_words(rt: HostRuntime) -> Result<(), Fail> {
     let found = [
         assigns_a_sum(rt.alloc())?,
         writes_a_line(rt.alloc(), &SimpleForm::WriteLine(FIRST, None), 8, 52)?,
-        writes_a_line(rt.alloc(), &SimpleForm::WriteLine(FIRST, Some(255)), 255, 56)?,
+        writes_a_line(
+            rt.alloc(),
+            &SimpleForm::WriteLine(FIRST, Some(255)),
+            255,
+            56,
+        )?,
         makes_the_frame(rt.alloc())?,
         loads_in_text_order(rt.alloc())?,
     ];
