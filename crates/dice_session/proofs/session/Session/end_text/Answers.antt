@@ -1,4 +1,4 @@
-use Rattle.std.proofs.Common.{ap, subst, sym}
+use Rattle.std.proofs.Common.{ap, subst, sym, refl}
 use Rattle.dice_session.specs.World.{load_reply, or_none}
 use Rattle.dice_session.specs.SessionOf.{Became}
 use Rattle.dice_session.specs.Readings.{AreStatements}

@@ -1,3 +1,4 @@
+use Rattle.std.proofs.Common.{refl}
 use Rattle.dice_session.specs.Reading.{NoStatement, OneStatement}
 use Rattle.dice_session.proofs.Sessions.{on_ok, puts-obeyed}
 use Rattle.dice_session.proofs.session.Session.replace.Goals as goal
