@@ -1,8 +1,8 @@
 -- Branches, condition codes, subroutines and returns from traps: PDP-11/40 Processor Handbook, chapter 4, program
 -- control and miscellaneous instructions.
 --
--- This project's own: by mode 2 JSR goes to the register as it was before its step; JSR SP pushes SP as it is once the
--- address was worked out; SP has stepped where a push or a pop comes to a bus trap; RTI and RTT are alike, and load all
+-- This project's own: by mode 2 JSR goes to the register as it was before its step; JSR SP pushes SP as it is after the
+-- step of that push; SP has stepped where a push or a pop comes to a bus trap; RTI and RTT are alike, and load all
 -- sixteen bits of PS.
 use Rattle.std.specs.Prelude.{ℕ, ◌+◌, ◌-◌, ◌*◌, ◌/◌, ◌%◌, Bool, true, false, ◌||◌, nat_le, nat_eq, if◌then◌else◌, Option, Some}
 use Rattle.pdp11_code.specs.declared.instr.Ea.{Ea}
