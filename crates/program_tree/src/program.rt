@@ -13,14 +13,15 @@ use crate::item::{Item, find_at, has_statements, name_of_item};
 use dice_base::{Name, NoMemory, Text};
 use indexmap::IndexMap;
 use pascal_tree::{Block, Tree, copy_program};
-use sqlite_items::Items;
+use sqlite_items::{Boxed, Items};
 use std::alloc::Global;
 use std::marker::Model;
 
 /// A program each of whose items has a name of its own, at least 1 and below the next name. Contracts see its tree.
 #[derive(Drop)]
 pub struct Program {
-    tree: Tree,
+    // In a box, so that its drop is one call wherever a program is let go.
+    tree: Boxed<Tree>,
     index: IndexMap<u32, Items<u32>>,
 }
 
@@ -42,21 +43,16 @@ impl Model for Program {
 }
 
 // The tree, with its index.
-fn indexed(alloc: Global, tree: Tree) -> Result<Program, NoMemory>
+fn indexed(alloc: Global, tree: Boxed<Tree>) -> Result<Program, NoMemory>
     requires { IsNamed tree }
     ensures { IfOk result (λ p. p ≡ tree) }
 {
-    match index_program(alloc, &tree) {
-        Ok(index) => Ok(Program { tree, index }),
-        Err(fault) => {
-            drop(tree);
-            Err(fault)
-        }
-    }
+    let index = index_program(alloc, tree.get())?;
+    Ok(Program { tree, index })
 }
 
 // The tree, whose items have the numbers below the next one as names, with its index.
-fn indexed_in_turn(alloc: Global, tree: Tree, next: u32) -> Result<Program, NoMemory>
+fn indexed_in_turn(alloc: Global, tree: Boxed<Tree>, next: u32) -> Result<Program, NoMemory>
     requires last { next ≡ tree.next }
     requires names { Counts 1 (program_names tree) tree.next }
     ensures { IfOk result (λ p. p ≡ tree) }
@@ -82,6 +78,7 @@ impl Program {
             block,
             next,
         };
+        let tree = Boxed::new(alloc, tree)?;
         indexed(alloc, tree)
     }
 
@@ -91,6 +88,7 @@ impl Program {
         ensures { IfOk result (λ p. p ≡ tree) }
     {
         let next = tree.next;
+        let tree = Boxed::new(alloc, tree)?;
         indexed_in_turn(alloc, tree, next)
     }
 
@@ -99,42 +97,43 @@ impl Program {
         ensures value { result.now ≡ self.now }
         ensures named { IsNamed self.now }
     {
-        &self.tree
+        self.tree.get()
     }
 
     /// The identifier of the program.
     pub fn ident(&self) -> &Text
         ensures { result.now ≡ self.now.ident }
     {
-        &self.tree.ident
+        &self.tree.get().ident
     }
 
     /// The program parameters.
     pub fn files(&self) -> &Items<Text>
         ensures { result.now ≡ self.now.files }
     {
-        &self.tree.files
+        &self.tree.get().files
     }
 
     /// The declarations and the body.
     pub fn block(&self) -> &Block
         ensures { result.now ≡ self.now.block }
     {
-        &self.tree.block
+        &self.tree.get().block
     }
 
     /// The name of the next item that is added.
     pub fn next_name(&self) -> u32
         ensures { result ≡ self.now.next }
     {
-        self.tree.next
+        self.tree.get().next
     }
 
     /// A copy: the same items with the same names.
     pub fn copy(&self, alloc: Global) -> Result<Program, NoMemory>
         ensures { IfOk result (λ p. p ≡ self.now) }
     {
-        let tree = copy_program(alloc, &self.tree)?;
+        let tree = copy_program(alloc, self.tree.get())?;
+        let tree = Boxed::new(alloc, tree)?;
         indexed(alloc, tree)
     }
 
@@ -145,8 +144,9 @@ impl Program {
         ensures { let tree = self.now in
             IfOk result (λ p. p ≡ record { ident = tree.ident; files = tree.files; block = tree.block; next = next }) }
     {
-        let mut tree = copy_program(alloc, &self.tree)?;
+        let mut tree = copy_program(alloc, self.tree.get())?;
         tree.next = next;
+        let tree = Boxed::new(alloc, tree)?;
         indexed(alloc, tree)
     }
 
@@ -174,7 +174,7 @@ impl Program {
         ensures once { HaveOwnNames (program_rows self.now) }
     {
         match self.path_of(name) {
-            Some(path) => find_at(Item::OfProgram(&self.tree), path),
+            Some(path) => find_at(Item::OfProgram(self.tree.get()), path),
             None => None,
         }
     }
@@ -217,7 +217,7 @@ impl Program {
     {
         match path.len() {
             0 => None,
-            count => find_at(Item::OfProgram(&self.tree), &path[..count - 1]),
+            count => find_at(Item::OfProgram(self.tree.get()), &path[..count - 1]),
         }
     }
 

@@ -14,6 +14,7 @@ use crate::stmt_levels::stmt_depth;
 use dice_base::{Name, NoMemory};
 use pascal_tree::{Stmt, copy_texts};
 use program_tree::{Item, Program};
+use sqlite_items::Boxed;
 use std::alloc::Global;
 use tree_names::name_stmt;
 
@@ -53,6 +54,21 @@ fn with_named(
     with_stmt(alloc, program, path, named, next)
 }
 
+// The statement with its names, in a box, so that its drop is one call.
+fn boxed_stmt(
+    alloc: Global,
+    name: Name,
+    stmt: &Stmt,
+    next: u32,
+) -> Result<(Boxed<Stmt>, u32), NoMemory>
+    ensures value { IfOk result (λ r. r ≡ stmt_renaming name.0 stmt.now next) }
+    ensures names { IfOk result (λ r. Counts next (names_within r.0) r.1) }
+{
+    let (named, last) = name_stmt(alloc, name, stmt, next)?;
+    let named = Boxed::new(alloc, named)?;
+    Ok((named, last))
+}
+
 // The program with the statement in the place of the old one, which stands at the path.
 fn with_renamed(
     alloc: Global,
@@ -65,8 +81,8 @@ fn with_renamed(
     ensures { let named = stmt_renaming (out-Stmt old.now).name.0 stmt.now program.now.next in
         IfOk result (λ p. p ≡ with_stmt path.now named program.now) }
 {
-    let (named, next) = name_stmt(alloc, old.name, stmt, program.next_name())?;
-    with_named(alloc, program, path, old, &named, next)
+    let (named, next) = boxed_stmt(alloc, old.name, stmt, program.next_name())?;
+    with_named(alloc, program, path, old, named.get(), next)
 }
 
 fn replaced_stmt(
