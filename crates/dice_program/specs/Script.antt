@@ -24,7 +24,8 @@ lines_in text = ended_lines text ++ some_line (last_piece text)
 
 -- of the lines that there is room for, so many at most
 unfoldable pub acted_within : ℕ → ℕ → List ℕ → List (List ℕ)
-acted_within lines bytes script = take lines (if nat_lt bytes (length script) then ended_lines (take bytes script) else lines_in script)
+acted_within lines bytes script = take lines
+    (if nat_lt bytes (length script) then ended_lines (take bytes script) else lines_in script)
 
 -- the lines of a script that are acted on
 abbrev pub acted : List ℕ → List (List ℕ)

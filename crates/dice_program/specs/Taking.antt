@@ -25,7 +25,8 @@ pub record TakesOnly (taken : List ℕ) (commands : List Command) : Type 0 where
   pub exact : last_piece taken ≡ []
 
 -- the whole script was taken, and it is not too long
-pub record TakesAll {left left_then : Option (List ℕ)} (part : ScriptPart left left_then) : Type 0 where
+pub record TakesAll
+    {left left_then : Option (List ℕ)} (part : ScriptPart left left_then) : Type 0 where
   pub all : part.rest ≡ []
   pub ended : IsAtEnd left_then
   pub fits : ¬ (IsTooLong part.script)
@@ -46,7 +47,8 @@ pub record TakesToQuit (taken : List ℕ) : Type 0 where
 -- missing. A text that is open where a script is too long is not ended.
 abbrev pub AreBegun : List ℕ → List (List ℕ) → List (List ℕ) → List Command → Type 0
 AreBegun script lines rest commands =
-    ReadsAll empty_world lines commands ⊎ ((rest ≡ []) × (¬ (IsTooLong script)) × AreCommands lines commands)
+    ReadsAll empty_world lines commands
+    ⊎ ((rest ≡ []) × (¬ (IsTooLong script)) × AreCommands lines commands)
 
 -- the lines that are acted on begin with these commands
 pub record Begins (script : List ℕ) (commands : List Command) : Type 0 where

@@ -106,11 +106,14 @@ pub record IsUsageCut (input : Input) (output : Output) (now then : MachineState
   pub kept : then ≡ now
 
 -- with these words on the command line, a run ended so
-abbrev pub Ended : {Word : Type 0} → List Word → Status → Input → Output → MachineState → MachineState → Type 0
+abbrev pub Ended : {Word : Type 0} → List Word → Status → Input → Output
+    → MachineState → MachineState → Type 0
 Ended [] Done input output now then = IsDone input output then
 Ended [] TooMany input output now then = IsTooMany input output then
-Ended [] ReadFault input output now then = IsBroken input output then × Rose input.faults input.faults_then
-Ended [] WriteFault input output now then = IsCut input output then × Rose output.faults output.faults_then
+Ended [] ReadFault input output now then =
+    IsBroken input output then × Rose input.faults input.faults_then
+Ended [] WriteFault input output now then =
+    IsCut input output then × Rose output.faults output.faults_then
 Ended [] NoMemory input output now then = IsShort input output
 Ended [] Usage input output now then = ⊥
 Ended (w ∷ ws) Usage input output now then = IsUsage input output now then
@@ -121,10 +124,13 @@ Ended (w ∷ ws) other input output now then = ⊥
 abbrev pub Tells : Output → Status → Type 0
 Tells output status =
     Appends output.held output.held_then (message_of status)
-    ⊎ (WritesPart output.held output.held_then (message_of status) × Rose output.faults output.faults_then)
+    ⊎ (WritesPart output.held output.held_then (message_of status)
+    × Rose output.faults output.faults_then)
 
 -- The run ended so, with these words on the command line. The number is that of its status, which is also told in words.
-pub record EndsWith {Word : Type 0} (words : List Word) (number : ℕ) (input : Input) (output errors : Output) (now then : MachineState) : Type 0 where
+pub record EndsWith
+    {Word : Type 0} (words : List Word) (number : ℕ) (input : Input) (output errors : Output)
+    (now then : MachineState) : Type 0 where
   pub status : Status
   pub ended : Ended words status input output now then
   pub is : number ≡ number_of status

@@ -22,42 +22,56 @@ use Rattle.dice_program.specs.declared.serve.Fault.{Fault}
 use Rattle.dice_program.specs.declared.serve.Fault.TheVariants.{ReadFault, WriteFault, NoMemory}
 
 -- a line was read as a command, obeyed and answered
-pub record Answered (w : World) (line : List ℕ) (session : Session) (machine : MachineState) (held held_then : Option (List ℕ)) : Type 0 where
+pub record Answered
+    (w : World) (line : List ℕ) (session : Session) (machine : MachineState)
+    (held held_then : Option (List ℕ)) : Type 0 where
   pub command : Command
   pub reads : Reads w.mode line command
   pub wrote : Appends held held_then (reply_of w command).text
   pub lives : IsSessionOf (reply_of w command).world session machine
 
 -- a line was obeyed, and not answered whole
-pub record CutShort (w : World) (line : List ℕ) (session : Session) (machine : MachineState) (held held_then : Option (List ℕ)) : Type 0 where
+pub record CutShort
+    (w : World) (line : List ℕ) (session : Session) (machine : MachineState)
+    (held held_then : Option (List ℕ)) : Type 0 where
   pub command : Command
   pub reads : Reads w.mode line command
   pub wrote : WritesPart held held_then (reply_of w command).text
   pub lives : IsSessionOf (reply_of w command).world session machine
 
 -- what became of a line
-abbrev pub Answers : Result (Unit {0}) Fault → World → List ℕ → Session → MachineState → Option (List ℕ) → Option (List ℕ) → Type 0
-Answers (Ok u) w line session machine held held_then = Answered w line session machine held held_then
+abbrev pub Answers : Result (Unit {0}) Fault → World → List ℕ → Session → MachineState
+    → Option (List ℕ) → Option (List ℕ) → Type 0
+Answers (Ok u) w line session machine held held_then =
+    Answered w line session machine held held_then
 Answers (Err ReadFault) w line session machine held held_then = ⊥
-Answers (Err WriteFault) w line session machine held held_then = CutShort w line session machine held held_then
+Answers (Err WriteFault) w line session machine held held_then =
+    CutShort w line session machine held held_then
 Answers (Err NoMemory) w line session machine held held_then = Keeps held held_then
 
 -- no line, or one, was answered
-pub record AnsweredAll (w : World) (lines : List (List ℕ)) (session : Session) (machine : MachineState) (held held_then : Option (List ℕ)) : Type 0 where
+pub record AnsweredAll
+    (w : World) (lines : List (List ℕ)) (session : Session) (machine : MachineState)
+    (held held_then : Option (List ℕ)) : Type 0 where
   pub commands : List Command
   pub reads : ReadsAll w lines commands
   pub wrote : Appends held held_then (replies_from w commands)
   pub lives : IsSessionOf (world_after w commands) session machine
 
 -- what became of a line that may be missing
-abbrev pub AnswersSome : Result (Unit {0}) Fault → World → List (List ℕ) → Session → MachineState → Option (List ℕ) → Option (List ℕ) → Type 0
-AnswersSome (Ok u) w lines session machine held held_then = AnsweredAll w lines session machine held held_then
+abbrev pub AnswersSome : Result (Unit {0}) Fault → World → List (List ℕ) → Session → MachineState
+    → Option (List ℕ) → Option (List ℕ) → Type 0
+AnswersSome (Ok u) w lines session machine held held_then =
+    AnsweredAll w lines session machine held held_then
 AnswersSome (Err ReadFault) w lines session machine held held_then = ⊥
-AnswersSome (Err WriteFault) w lines session machine held held_then = (line : List ℕ) × (lines ≡ line ∷ []) × CutShort w line session machine held held_then
+AnswersSome (Err WriteFault) w lines session machine held held_then =
+    (line : List ℕ) × (lines ≡ line ∷ []) × CutShort w line session machine held held_then
 AnswersSome (Err NoMemory) w lines session machine held held_then = Keeps held held_then
 
 -- nothing was answered
-pub record Unanswered (w : World) (session : Session) (machine : MachineState) (held held_then : Option (List ℕ)) : Type 0 where
+pub record Unanswered
+    (w : World) (session : Session) (machine : MachineState)
+    (held held_then : Option (List ℕ)) : Type 0 where
   pub kept : Keeps held held_then
   pub lives : IsSessionOf w session machine
 
@@ -68,7 +82,8 @@ pub record TakesOneLine (read : LineRead) : Type 0 where
   pub one : length (lines_in taken) ≤ 1
 
 -- what became of a turn: what was read of the script, and what was answered
-abbrev pub Turns : Result Turn Fault → World → Session → MachineState → LineRead → Option (List ℕ) → Option (List ℕ) → Type 0
+abbrev pub Turns : Result Turn Fault → World → Session → MachineState → LineRead
+    → Option (List ℕ) → Option (List ℕ) → Type 0
 Turns (Ok On) w session machine read held held_then =
     (whole : WholeLine read) × (a : Answered w (strip whole.line) session machine held held_then)
     × IsOver false (reply_of w a.command).world.mode
@@ -83,8 +98,10 @@ Turns (Err ReadFault) w session machine read held held_then =
     Broken read × Unanswered w session machine held held_then
 Turns (Err WriteFault) w session machine read held held_then =
     ((whole : WholeLine read) × CutShort w (strip whole.line) session machine held held_then)
-    ⊎ ((end : LastLine read) × AnswersSome (Err WriteFault) w (some_line end.line) session machine held held_then)
-Turns (Err NoMemory) w session machine read held held_then = TakesOneLine read × Keeps held held_then
+    ⊎ ((end : LastLine read)
+    × AnswersSome (Err WriteFault) w (some_line end.line) session machine held held_then)
+Turns (Err NoMemory) w session machine read held held_then =
+    TakesOneLine read × Keeps held held_then
 
 -- where no more lines are acted on: the script has one more, or it is at its end
 abbrev pub IsMore : LineRead → Type 0

@@ -97,7 +97,8 @@ fn answer_line<K: Sink>(
     sink: &mut K,
 ) -> Result<(), Fault>
     requires lives { (w : World) × IsSessionOf w session.old machine.old }
-    ensures answers { (w : World) (l : List ℕ) → IsSessionOf w session.old machine.old → SameFront l line.now
+    ensures answers { (w : World) (l : List ℕ) → IsSessionOf w session.old machine.old
+        → SameFront l line.now
         → Answers result w l session.new machine.new (K.held sink.old) (K.held sink.new) }
     ensures later { K.faults sink.old ≤ K.faults sink.new }
     ensures same { OnOk result (K.faults sink.new ≡ K.faults sink.old) }
@@ -119,8 +120,10 @@ fn answer_last<K: Sink>(
     sink: &mut K,
 ) -> Result<(), Fault>
     requires lives { (w : World) × IsSessionOf w session.old machine.old }
-    ensures answers { (w : World) (l : List ℕ) → IsSessionOf w session.old machine.old → line.now ≡ take kept_bytes l
-        → AnswersSome result w (some_line l) session.new machine.new (K.held sink.old) (K.held sink.new) }
+    ensures answers { (w : World) (l : List ℕ) → IsSessionOf w session.old machine.old
+        → line.now ≡ take kept_bytes l
+        → AnswersSome result w (some_line l) session.new machine.new
+        (K.held sink.old) (K.held sink.new) }
     ensures later { K.faults sink.old ≤ K.faults sink.new }
     ensures same { OnOk result (K.faults sink.new ≡ K.faults sink.old) }
     ensures cause { IsErrOf result Fault.WriteFault → Rose (K.faults sink.old) (K.faults sink.new) }
@@ -141,7 +144,8 @@ fn answer_end<K: Sink>(
 ) -> Result<(), Fault>
     requires lives { (w : World) × IsSessionOf w session.old machine.old }
     ensures answers { (w : World) → IsSessionOf w session.old machine.old
-        → AnswersSome result w (missing_end w.mode) session.new machine.new (K.held sink.old) (K.held sink.new) }
+        → AnswersSome result w (missing_end w.mode) session.new machine.new
+        (K.held sink.old) (K.held sink.new) }
     ensures later { K.faults sink.old ≤ K.faults sink.new }
     ensures same { OnOk result (K.faults sink.new ≡ K.faults sink.old) }
     ensures cause { IsErrOf result Fault.WriteFault → Rose (K.faults sink.old) (K.faults sink.new) }
@@ -177,7 +181,8 @@ fn take_turn<S: Source, K: Sink>(
     ensures sink { K.faults sink.old ≤ K.faults sink.new }
     ensures same_source { OnOk result (S.faults source.new ≡ S.faults source.old) }
     ensures same_sink { OnOk result (K.faults sink.new ≡ K.faults sink.old) }
-    ensures read { IsErrOf result Fault.ReadFault → Rose (S.faults source.old) (S.faults source.new) }
+    ensures read { IsErrOf result Fault.ReadFault
+        → Rose (S.faults source.old) (S.faults source.new) }
     ensures write { IsErrOf result Fault.WriteFault → Rose (K.faults sink.old) (K.faults sink.new) }
 {
     match next_line(source, line, room)? {
@@ -211,7 +216,8 @@ fn final_turn<S: Source>(
       left_then = S.left source.new;
     }) }
     ensures later { S.faults source.old ≤ S.faults source.new }
-    ensures cause { IsErrOf result LineFault.SourceFailed → Rose (S.faults source.old) (S.faults source.new) }
+    ensures cause { IsErrOf result LineFault.SourceFailed
+        → Rose (S.faults source.old) (S.faults source.new) }
 {
     match next_line(source, line, room)? {
         Got::Last => Ok(if line.as_slice().is_empty() {
@@ -247,7 +253,8 @@ pub(crate) fn serve_script<S: Source, K: Sink>(
         machine.new }
     ensures source { S.faults source.old ≤ S.faults source.new }
     ensures sink { K.faults sink.old ≤ K.faults sink.new }
-    ensures read { IsErrOf result Fault.ReadFault → Rose (S.faults source.old) (S.faults source.new) }
+    ensures read { IsErrOf result Fault.ReadFault
+        → Rose (S.faults source.old) (S.faults source.new) }
     ensures write { IsErrOf result Fault.WriteFault → Rose (K.faults sink.old) (K.faults sink.new) }
 {
     let mut session = Session::new(alloc)?;
