@@ -14,7 +14,7 @@ use Rattle.pascal_semantics.specs.Valid.{program_name, IsFree}
 use Rattle.pascal_semantics.specs.State.{Status, NotStarted, Halted, Ended as IsEnded, Failed as HasFailed, Activation, State as PascalState}
 use Rattle.pascal_semantics.specs.Step.{Evaluation, Value, Error, small_step}
 use Rattle.pascal_semantics.specs.Evaluations.{form_evaluation}
-use Rattle.pascal_semantics.specs.Run.{settled, driven, steps_limit, started, is_over, stretch_unless as unless_over}
+use Rattle.pascal_semantics.specs.Run.{settled, driven, steps_limit, started, is_over, unless as unless_over}
 use Rattle.pascal_semantics.proofs.Settles.{before_gate, outcome_state, statement_settles}
 use Rattle.statement_code.specs.Forms.{BlockForm, ProgramBlock, StatementBlock, NoCall, Store, after_effect, exit_by, simple}
 use Rattle.image_plan.specs.Links.{blocks_of, spot_of, form_of, end_of}

@@ -40,10 +40,10 @@ ends (Error error) = true
 ends other = false
 
 -- the machine with these words written from this word number on
-unfoldable pub with_words : State → ℕ → List ℕ → State
+unfoldable pub with_words : MachineState → ℕ → List ℕ → MachineState
 with_words m place [] = m
 with_words m place (w ∷ ws) = with_words (with_word m (2 * place) w) (place + 1) ws
 
 -- the machine ready for the first run: SP at the end of the memory, PC at the begin of the code
-abbrev pub with_start : State → State
+abbrev pub with_start : MachineState → MachineState
 with_start m = with_reg (with_reg m 6 MEMORY_END_BYTE) 7 CODE_BYTE
