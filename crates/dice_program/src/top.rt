@@ -67,8 +67,11 @@ pub fn told<E: Sink>(errors: &mut E, status: Status) -> ExitCode
       faults_then = E.faults errors.new;
     }) status }
 {
-    let _ = write_all(errors, status.message());
-    ExitCode::from(status.number())
+    let code = ExitCode::from(status.number());
+    match write_all(errors, status.message()) {
+        Ok(()) => code,
+        Err(Failed) => code,
+    }
 }
 
 /// Runs `dice11` and tells how it ended, by the exit status and by a line to `errors`.

@@ -1,8 +1,13 @@
-use Rattle.std.proofs.Common.{◌∙◌}
+use Rattle.std.proofs.Common.{◌∙◌, refl}
 use Rattle.std.proofs.lemmas.Result.{err_from_is_err_and}
 use Rattle.dice_program.specs.declared.serve.Turn.{Turn}
-use Rattle.dice_program.proofs.Turns.{turn-cut, turn-cut-last, err-same}
+use Rattle.dice_program.proofs.Turns.{turn-cut, turn-cut-last, turn-unread, err-same}
 use Rattle.dice_program.proofs.serve.take_turn.Goals as goal
+
+pub returns-in_err-next_line-clause-turns : goal.returns-in_err-next_line-clause-turns
+returns-in_err-next_line-clause-turns g c = λ w lives.
+    let p = err_from_is_err_and c.from_residual.result c.from_residual.ensures.1 in
+    rw (p.1, p.2) (turn-unread c.in_err-next_line.field-0.0 w _ _ _ _ (c.in_err-next_line.ensures.part refl) lives)
 
 pub returns-in_err-answer_line-in-Whole-clause-turns : goal.returns-in_err-answer_line-in-Whole-clause-turns
 returns-in_err-answer_line-in-Whole-clause-turns g c = λ w lives.
