@@ -132,6 +132,8 @@ fn place(program: &Program, name: u32) -> (u32, u32) {
 fn items_are_found_by_name(rt: HostRuntime) -> Result<(), Fail> {
     let program = program(rt.alloc())?;
     let copy = program.copy(rt.alloc())?;
+    // A copy may have a later next name, and no earlier one.
+    assert!(rt; copy.next_name() <= 20);
     let later = copy.copy_next(rt.alloc(), 20)?;
     let letters = [0, 1, 2, 3, 4, 5, 6, 7, 8].map(|name| letter(&later, name));
     let places = [1, 2, 3, 4, 5, 6, 7, 8].map(|name| place(&later, name));

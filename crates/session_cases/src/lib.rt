@@ -1,5 +1,0 @@
-//! The replies of a whole session, compared with what a reader works out by hand.
-#![tactic(auto)]
-
-#[cfg(test)]
-mod cases;
