@@ -1,11 +1,7 @@
-//! What reads texts, tried on examples: tokens, commands, programs and statements, and the programs that are built.
+//! What reads texts, tried on examples: tokens and commands.
 #![tactic(auto)]
 
 #[cfg(test)]
 mod commands;
-#[cfg(test)]
-mod parsing;
-#[cfg(test)]
-mod resolving;
 #[cfg(test)]
 mod scanning;
