@@ -15,7 +15,8 @@ use Rattle.dice_session.specs.Simulates.{Simulates}
 use Rattle.dice_program.specs.declared.serve.Fault.{Fault}
 use Rattle.dice_program.specs.declared.serve.Fault.TheVariants.{ReadFault, WriteFault, NoMemory}
 use Rattle.dice_program.specs.Ends.{Input, Output}
-use Rattle.dice_program.specs.Script.{MAX_BYTES, MAX_LINES, ended_lines, lines_in, acted_within, acted, IsTooLong}
+use Rattle.dice_program.specs.Script.{ended_lines, lines_in, acted_within, acted, IsTooLong}
+use Rattle.dice_program.specs.declared.limits.TheConstants.{MAX_BYTES, MAX_LINES}
 use Rattle.dice_program.specs.Taking.{ScriptPart, TakesAll, Begins}
 use Rattle.dice_program.specs.Turns.{Answered, CutShort, AnsweredAll, AnswersSome, Unanswered, TakesOneLine, IsMore}
 use Rattle.dice_program.specs.Top.{IsDone, IsTooMany, IsBroken, IsCut, IsShort, Serves}

@@ -12,7 +12,8 @@ use Rattle.pdp11_machine.specs.State.{MachineState}
 use Rattle.dice_session.specs.declared.session.Session.{Session}
 use Rattle.dice_session.specs.World.{Over, Command, ReadsAll, Reads, empty_world, reply_of, replies_from, world_after}
 use Rattle.dice_session.specs.SessionOf.{IsSessionOf}
-use Rattle.dice_program.specs.Script.{MAX_BYTES, MAX_LINES, acted_within, acted}
+use Rattle.dice_program.specs.Script.{acted_within, acted}
+use Rattle.dice_program.specs.declared.limits.TheConstants.{MAX_BYTES, MAX_LINES}
 use Rattle.dice_program.specs.Turns.{Answered}
 use Rattle.dice_program.specs.Taking.{IsScript, ScriptPart, TakesOnly}
 use Rattle.dice_program.proofs.Pieces.{acted-joined, ended-all, last-all}

@@ -11,7 +11,7 @@ use Rattle.dice_session.specs.declared.session.Session.{Session}
 use Rattle.dice_session.specs.World.{empty_world, world_after}
 use Rattle.dice_program.specs.declared.serve.Fault.{Fault}
 use Rattle.dice_program.specs.declared.serve.Fault.TheVariants.{ReadFault, WriteFault, NoMemory}
-use Rattle.dice_program.specs.Script.{MAX_LINES}
+use Rattle.dice_program.specs.declared.limits.TheConstants.{MAX_LINES}
 use Rattle.dice_program.specs.Turns.{AnsweredAll, Unanswered, Turns, Finals, IsNoMore, fault_of}
 use Rattle.dice_program.specs.Top.{Serves}
 use Rattle.dice_program.proofs.Pieces.{some-few, few-plain}

@@ -2,13 +2,7 @@
 use Rattle.std.specs.Prelude.{◌<◌, ◌≤◌, ◌⊎◌, ℕ, ◌-◌, if◌then◌else◌, List, [], ◌++◌, length, take, map, slice_index_or, nat_lt}
 use Rattle.dice_base.specs.Lines.{pieces, whole_lines, some_line}
 use Rattle.script_lines.specs.Front.{strip}
-
--- so many bytes a script has at most, and fewer lines than this
-abbrev pub MAX_BYTES : ℕ
-MAX_BYTES = 67108864
-
-abbrev pub MAX_LINES : ℕ
-MAX_LINES = 1000000
+use Rattle.dice_program.specs.declared.limits.TheConstants.{MAX_BYTES, MAX_LINES}
 
 -- the lines that end by a line feed, without it and without a carriage return before it
 unfoldable pub ended_lines : List ℕ → List (List ℕ)

@@ -8,7 +8,8 @@ use Rattle.pdp11_machine.specs.State.{MachineState}
 use Rattle.dice_session.specs.World.{reply_line, Command, empty_world, reply_of, ReadsAll, AreCommands, transcript_of, last_world}
 use Rattle.dice_session.specs.Simulates.{Simulates}
 use Rattle.dice_program.specs.Ends.{Input, Output}
-use Rattle.dice_program.specs.Script.{MAX_BYTES, MAX_LINES, ended_lines, lines_in, acted, IsTooLong}
+use Rattle.dice_program.specs.Script.{ended_lines, lines_in, acted, IsTooLong}
+use Rattle.dice_program.specs.declared.limits.TheConstants.{MAX_BYTES, MAX_LINES}
 use Rattle.dice_program.specs.Status.{number_of, message_of}
 use Rattle.dice_program.specs.Taking.{ScriptPart, TakesOnly, TakesAll, TakesToQuit, IsQuit, Begins}
 use Rattle.dice_program.specs.declared.serve.Ending.{Ending}

@@ -1,6 +1,7 @@
 //! The program `dice11`: a script on standard input, and its transcript on standard output.
 #![tactic(auto)]
 
+mod limits;
 mod serve;
 mod status;
 #[cfg(test)]

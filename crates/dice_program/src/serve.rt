@@ -10,17 +10,12 @@ ghost use Rattle.dice_program.specs.Turns.{Answers, AnswersSome, Turns, Finals};
 ghost use Rattle.dice_program.specs.Top.{Serves};
 ghost use Rattle.dice_program.specs.declared.serve.Fault.TheVariants.{ReadFault, WriteFault, NoMemory as Refused};
 
+use crate::limits::{MAX_BYTES, MAX_LINES};
 use dice_base::{Failed, NoMemory, Sink, Source, Text, write_all};
 use dice_session::Session;
 use pdp11_machine::Machine;
 use script_lines::{Got, LineFault, next_line, stripped};
 use std::alloc::Global;
-
-/// No script may have so many lines.
-const MAX_LINES: u32 = 1_000_000;
-
-/// A script has so many bytes at most.
-const MAX_BYTES: u32 = 67_108_864;
 
 /// The line that ends a text.
 const END_LINE: &[u8] = b".";

@@ -3,6 +3,7 @@ ghost use Rattle.std.specs.Prelude.{◌≡◌, ◌≤◌, ◌<◌, length, Some,
 ghost use Rattle.dice_base.specs.Lexemes.{place_of};
 ghost use Rattle.simple_form.specs.Simple as spec;
 ghost use Rattle.pascal_semantics.specs.Valid.{IsOperand, IsSum};
+ghost use Rattle.pascal_semantics.specs.declared.limits.TheConstants.{GLOBAL_WORDS};
 
 use dice_base::Text;
 use pascal_semantics::{Operand, Sum};
@@ -28,7 +29,7 @@ pub fn number_of(variables: &[Text], ident: &[u8]) -> Option<u16>
 pub fn variable(variables: &[Text], access: &Access) -> Option<u16>
     requires { length variables.now ≤ 64 }
     ensures value { result ≡ spec.variable_of variables.now access.now }
-    ensures small { IfSome result (λ n. n < 4096) }
+    ensures small { IfSome result (λ n. n < GLOBAL_WORDS) }
 {
     if !access.parts.is_empty() {
         return None;

@@ -31,7 +31,7 @@ fn label_count(labels: &Option<Decl>) -> usize
     }
 }
 
-// How far the position is past the declarations. None where it is one of them.
+/// How far the position is past the declarations. None where it is one of them.
 pub fn past_decls(block: &Block, at: usize) -> Option<usize>
     ensures { MatchOption result (at < spec.declared block.now) (λ left. at ≡ left + spec.declared block.now) }
 {
