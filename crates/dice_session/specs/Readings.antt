@@ -5,7 +5,7 @@ use Rattle.pascal_semantics.specs.declared.form.Statement.{Statement}
 use Rattle.pascal_semantics.specs.Valid.{IsForm, AllDiffer, IsFree, program_name}
 use Rattle.pascal_tree.specs.declared.program.Tree.{Tree}
 use Rattle.pascal_tree.specs.declared.stmt.Stmt.{Stmt}
-use Rattle.pascal_tree.specs.Tokens.{Toks}
+use Rattle.dice_base.specs.Tokens.{Toks}
 use Rattle.pascal_tree.specs.Naming.{numbered_program}
 use Rattle.simple_form.specs.Simple.{resolution_of}
 use Rattle.pascal_parser.specs.Whole.{DerivesStmt}

@@ -7,7 +7,7 @@ use Rattle.pascal_tree.specs.declared.expr.AccessPart.{AccessPart}
 use Rattle.pascal_tree.specs.declared.expr.AccessPart.TheVariants as part
 use Rattle.dice_base.specs.declared.token.TokenKind.{TokenKind}
 use Rattle.dice_base.specs.declared.token.TokenKind.TheVariants.{Word, Ident, Number, Str, Sign, Hole}
-use Rattle.pascal_tree.specs.Tokens.{Toks, class_at}
+use Rattle.dice_base.specs.Tokens.{Toks, class_at}
 use Rattle.pascal_tree.specs.Classes.{comma_class, right_class, left_class, period_class, arrow_class, ident_class}
 use Rattle.grammar_laws.specs.Parsers.{Parser, ◌>>=◌, pure, ident, ident_of, many_after, separated, behind}
 use Rattle.pascal_tree.specs.Forms.{Form, token, row, after_sep, list_of, named}

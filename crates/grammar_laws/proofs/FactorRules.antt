@@ -7,7 +7,7 @@ use Rattle.pascal_tree.specs.declared.expr.Factor.TheVariants as f
 use Rattle.pascal_tree.specs.declared.expr.Access.{Access}
 use Rattle.dice_base.specs.declared.token.TokenKind.{TokenKind}
 use Rattle.dice_base.specs.declared.token.TokenKind.TheVariants.{Word, Ident, Number, Str, Sign, Hole}
-use Rattle.pascal_tree.specs.Tokens.{Toks, class_at}
+use Rattle.dice_base.specs.Tokens.{Toks, class_at}
 use Rattle.pascal_tree.specs.Classes.{number_class, ident_class, open_class, close_class, not_class}
 use Rattle.grammar_laws.specs.Parsers.{Parser, ◌>>=◌, pure, refuse, number, number_of, deep}
 use Rattle.pascal_tree.specs.Forms.{Form, never, just, token, chain, either, numeral}

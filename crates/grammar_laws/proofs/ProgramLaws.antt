@@ -5,7 +5,7 @@ use Rattle.std.proofs.lemmas.List.{append-nil}
 use Rattle.pascal_tree.specs.declared.decl.Decl.{Decl}
 use Rattle.pascal_tree.specs.declared.program.Tree.{Tree}
 use Rattle.pascal_tree.specs.declared.stmt.Stmt.{Stmt}
-use Rattle.pascal_tree.specs.Tokens.{Toks, class_at}
+use Rattle.dice_base.specs.Tokens.{Toks, class_at}
 use Rattle.pascal_tree.specs.Classes.{begin_class, program_class, var_class, ident_class, period_class, comma_class, semicolon_class, colon_class}
 use Rattle.pascal_tree.specs.Forms.{Form, named}
 use Rattle.pascal_tree.specs.Statements.{compound_in, compound_form, stmt_at}

@@ -2,7 +2,7 @@
 use Rattle.std.specs.Prelude.{◌≡◌, ◌⊎◌, ℕ, zero, suc, ◌+◌, ◌≤◌, Bool, true, false, if◌then◌else◌, ◌==◌, List, [], ◌∷◌, ◌++◌, length, Option, Some, None, Ok, Err}
 use Rattle.std.proofs.Common.{refl, sym, ap, subst, ◌∙◌, append_assoc, arith, length-append, cond, eqb}
 use Rattle.dice_base.specs.declared.token.TokenKind.{TokenKind}
-use Rattle.pascal_tree.specs.Tokens.{Toks, class_of, class_at}
+use Rattle.dice_base.specs.Tokens.{Toks, class_of, class_at}
 use Rattle.grammar_laws.specs.Parsers.{Parser, Outcome, ◌>>=◌, and_then, pure, many_from, more_of, many, expect, sees, next, prefixed, after_op, on}
 use Rattle.pascal_tree.specs.Forms.{just, token, chain, row, either, behind_op}
 use Rattle.std.proofs.Common.{inl, inr}

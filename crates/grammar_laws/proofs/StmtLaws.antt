@@ -9,7 +9,7 @@ use Rattle.pascal_tree.specs.declared.expr.AccessPart.{AccessPart}
 use Rattle.pascal_tree.specs.declared.stmt.Stmt.{Stmt}
 use Rattle.pascal_tree.specs.declared.stmt.StmtKind.{StmtKind}
 use Rattle.pascal_tree.specs.declared.stmt.StmtKind.TheVariants as s
-use Rattle.pascal_tree.specs.Tokens.{Toks, class_at}
+use Rattle.dice_base.specs.Tokens.{Toks, class_at}
 use Rattle.pascal_tree.specs.Classes.{begin_class, end_class, else_class, until_class, ident_class, open_class, close_class, becomes_class, comma_class, semicolon_class, colon_class}
 use Rattle.pascal_tree.specs.Forms.{Form, just, token, chain, either, row, rows, list_of, operator, named}
 use Rattle.pascal_tree.specs.Expressions.{make_access, part_form, expr_at}

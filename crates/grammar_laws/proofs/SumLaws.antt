@@ -11,7 +11,7 @@ use Rattle.pascal_tree.specs.declared.expr.Prefix.TheVariants as prefix
 use Rattle.pascal_tree.specs.declared.expr.RelPart.{RelPart}
 use Rattle.pascal_tree.specs.declared.expr.Term.{Term}
 use Rattle.pascal_tree.specs.declared.expr.Factor.{Factor}
-use Rattle.pascal_tree.specs.Tokens.{Toks, class_at}
+use Rattle.dice_base.specs.Tokens.{Toks, class_at}
 use Rattle.pascal_tree.specs.Classes.{plus_class, minus_class}
 use Rattle.grammar_laws.specs.Parsers.{Parser, prefixed}
 use Rattle.pascal_tree.specs.Forms.{Form, just, token, either, opt, behind_op}

@@ -5,7 +5,7 @@ use Rattle.pascal_tree.specs.declared.expr.AddOp.{AddOp}
 use Rattle.pascal_tree.specs.declared.expr.RelOp.{RelOp}
 use Rattle.pascal_tree.specs.declared.expr.Expr.{Expr}
 use Rattle.pascal_tree.specs.declared.expr.Factor.{Factor}
-use Rattle.pascal_tree.specs.Tokens.{Toks, class_at}
+use Rattle.dice_base.specs.Tokens.{Toks, class_at}
 use Rattle.grammar_laws.proofs.Rules.{Rule, Any}
 use Rattle.grammar_laws.specs.Reading as r
 use Rattle.pascal_tree.specs.Forms.{Form}

@@ -4,7 +4,7 @@
 use Rattle.std.specs.Prelude.{◌≡◌, ℕ, zero, suc, Bool, if◌then◌else◌, ◌==◌, List, [], ◌∷◌, ◌++◌, length, drop, Option, Some, None, Result, Ok, Err}
 use Rattle.dice_base.specs.declared.token.TokenKind.{TokenKind}
 use Rattle.dice_base.specs.declared.token.TokenKind.TheVariants.{Ident, Number}
-use Rattle.pascal_tree.specs.Tokens.{Toks, class_at}
+use Rattle.dice_base.specs.Tokens.{Toks, class_at}
 use Rattle.grammar_laws.specs.declared.stop.Stop.{Stop}
 use Rattle.grammar_laws.specs.declared.stop.Stop.TheVariants.{Memory, At, Deep}
 

@@ -4,7 +4,7 @@ use Rattle.std.proofs.Common.{refl, ap, ◌∙◌, arith, inl, inr, eqb-true}
 use Rattle.std.specs.Option.{option_map}
 use Rattle.dice_base.specs.declared.token.TokenKind.{TokenKind}
 use Rattle.dice_base.specs.declared.token.TokenKind.TheVariants.{Word, Ident, Number, Str, Sign, Hole}
-use Rattle.pascal_tree.specs.Tokens.{Toks, class_of}
+use Rattle.dice_base.specs.Tokens.{Toks, class_of}
 use Rattle.pascal_tree.specs.Forms.{Form, row, opt, after_sep, list_of, operator, behind_op}
 use Rattle.pascal_tree.specs.Joined.{flat, behind_each, join, optional_part}
 

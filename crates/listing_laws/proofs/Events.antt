@@ -17,7 +17,7 @@ use Rattle.pascal_tree.specs.declared.typing.TypeText.TheFolds.{fold-roll-TypeTe
 use Rattle.pascal_tree.specs.declared.decl.Decl.{Decl}
 use Rattle.pascal_tree.specs.declared.decl.Block.{Block}
 use Rattle.pascal_tree.specs.declared.decl.Block.TheFolds.{fold-roll-Block}
-use Rattle.pascal_tree.specs.Tokens.{Toks}
+use Rattle.dice_base.specs.Tokens.{Toks}
 use Rattle.pascal_tree.specs.Statements.{no_name, make_stmt}
 use Rattle.pascal_tree.specs.Programs.{make_block, make_program}
 use Rattle.pascal_tree.specs.Joined.{flat, behind_each, join}

@@ -4,7 +4,7 @@ use Rattle.std.proofs.Common.{refl, inl, inr, append-nil, append_assoc}
 use Rattle.pascal_tree.specs.declared.expr.Prefix.{Prefix}
 use Rattle.pascal_tree.specs.declared.expr.Expr.{Expr}
 use Rattle.pascal_tree.specs.declared.expr.Factor.{Factor}
-use Rattle.pascal_tree.specs.Tokens.{Toks}
+use Rattle.dice_base.specs.Tokens.{Toks}
 use Rattle.pascal_tree.specs.Classes.{comma_class}
 use Rattle.pascal_tree.specs.Forms.{Form, behind_op}
 use Rattle.pascal_tree.specs.Expressions.{mul_ops, add_ops, rel_ops, mul_op, add_op, rel_op, make_mul, make_add, make_rel, part_form, access_form, factor_form, term_form, sign_form, sum_form, expr_form, expr_at, factor_at}

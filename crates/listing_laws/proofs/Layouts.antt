@@ -3,7 +3,7 @@ use Rattle.std.proofs.Common.{◌≡◌, ℕ, zero, suc, ◌*◌, Bool, true, fa
 use Rattle.std.specs.declared.option.Option.{Option}
 use Rattle.std.specs.List.{AllByRecursion}
 use Rattle.dice_base.specs.declared.token.TokenKind.{TokenKind}
-use Rattle.pascal_tree.specs.Tokens.{Toks}
+use Rattle.dice_base.specs.Tokens.{Toks}
 use Rattle.pascal_tree.specs.declared.stmt.Stmt.{Stmt, out-Stmt, map-Stmt}
 use Rattle.pascal_tree.specs.declared.stmt.StmtKind.{StmtKind}
 use Rattle.pascal_tree.specs.declared.stmt.Arm.{Arm}

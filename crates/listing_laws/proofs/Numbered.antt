@@ -17,7 +17,7 @@ use Rattle.pascal_tree.specs.declared.decl.Block.{Block, roll-Block}
 use Rattle.pascal_tree.specs.declared.decl.Routine.{Routine}
 use Rattle.pascal_tree.specs.declared.decl.Block.TheFolds.{fold-roll-Block}
 use Rattle.pascal_tree.specs.declared.program.Tree.{Tree}
-use Rattle.pascal_tree.specs.Tokens.{Toks}
+use Rattle.dice_base.specs.Tokens.{Toks}
 use Rattle.pascal_tree.specs.Forms.{Form, row, after_sep, list_of}
 use Rattle.pascal_tree.specs.Expressions.{expr_at}
 use Rattle.pascal_tree.specs.Statements.{no_name, make_stmt, compound_form, kind_form, stmt_form, stmt_at}

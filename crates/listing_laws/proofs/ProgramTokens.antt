@@ -7,7 +7,7 @@ use Rattle.pascal_tree.specs.declared.expr.Expr.{Expr}
 use Rattle.pascal_tree.specs.declared.expr.Arg.{Arg}
 use Rattle.pascal_tree.specs.declared.stmt.Stmt.{Stmt}
 use Rattle.pascal_tree.specs.declared.program.Tree.{Tree}
-use Rattle.pascal_tree.specs.Tokens.{Toks}
+use Rattle.dice_base.specs.Tokens.{Toks}
 use Rattle.pascal_tree.specs.Classes.{comma_class, semicolon_class}
 use Rattle.pascal_tree.specs.Forms.{Form, list_of, named}
 use Rattle.pascal_tree.specs.Expressions.{expr_at}

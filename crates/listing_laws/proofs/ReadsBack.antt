@@ -6,7 +6,7 @@ use Rattle.dice_base.specs.declared.fault.NoMemory.{NoMemory}
 use Rattle.dice_base.specs.Lexemes.{Lexes}
 use Rattle.pascal_tree.specs.declared.stmt.Stmt.{Stmt}
 use Rattle.pascal_tree.specs.declared.program.Tree.{Tree}
-use Rattle.pascal_tree.specs.Tokens.{Toks}
+use Rattle.dice_base.specs.Tokens.{Toks}
 use Rattle.pascal_tree.specs.Statements.{stmt_at}
 use Rattle.pascal_tree.specs.Programs.{Derives}
 use Rattle.grammar_laws.specs.StmtReading.{stmt_in}

@@ -21,7 +21,7 @@ use Rattle.pascal_tree.specs.declared.expr.AccessPart.{AccessPart, AccessPart-F}
 use Rattle.pascal_tree.specs.declared.expr.AccessPart.TheVariants as part
 use Rattle.pascal_tree.specs.declared.expr.AccessPart.TheVariants.{rolls-Index, rolls-Field, rolls-Dereference}
 use Rattle.pascal_tree.specs.declared.expr.AccessPart.TheFolds.{fold-roll-AccessPart, fold-roll-Factor, fold-roll-Access, fold-roll-AddPart, fold-roll-Arg, fold-roll-Expr, fold-roll-MulPart, fold-roll-RelPart, fold-roll-SumExpr, fold-roll-Term}
-use Rattle.pascal_tree.specs.Tokens.{Toks}
+use Rattle.dice_base.specs.Tokens.{Toks}
 use Rattle.pascal_tree.specs.Expressions.{make_mul, make_add, make_rel, make_access, make_term, make_sum, make_expr}
 use Rattle.pascal_tree.specs.Statements.{make_arg}
 use Rattle.pascal_tree.specs.Joined.{flat, optional_part, optional_part_after}

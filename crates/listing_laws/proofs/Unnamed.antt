@@ -15,7 +15,7 @@ use Rattle.pascal_tree.specs.declared.decl.Block.{Block, Block-F, roll-Block, ma
 use Rattle.pascal_tree.specs.declared.decl.Routine.{Routine, Routine-F, roll-Routine, map-Routine}
 use Rattle.pascal_tree.specs.declared.decl.Block.TheFolds.{fold-roll-Block, fold-roll-Routine, ind-Block}
 use Rattle.pascal_tree.specs.declared.program.Tree.{Tree}
-use Rattle.pascal_tree.specs.Tokens.{Toks}
+use Rattle.dice_base.specs.Tokens.{Toks}
 use Rattle.pascal_tree.specs.Statements.{no_name}
 use Rattle.dice_base.specs.Symbols.{end_word, of_word, var_word, semicolon_sign, colon_sign, period_sign, begin_word, case_word, const_word, do_word, else_word, goto_word, if_word, label_word, repeat_word, then_word, type_word, until_word, while_word, with_word, becomes_sign}
 use Rattle.pascal_tree.specs.ExprTokens.{expr_tokens, access_tokens, accesses_tokens, args_tokens}

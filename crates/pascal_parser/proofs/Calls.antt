@@ -2,7 +2,7 @@
 use Rattle.std.proofs.Common.{◌≡◌, ℕ, ◌≤◌, ◌<◌, List, [], ◌∷◌, Err, refl, length, arith}
 use Rattle.pascal_tree.specs.declared.expr.AccessPart.{AccessPart}
 use Rattle.pascal_tree.specs.declared.stmt.StmtKind.TheVariants as s
-use Rattle.pascal_tree.specs.Tokens.{Toks}
+use Rattle.dice_base.specs.Tokens.{Toks}
 use Rattle.grammar_laws.specs.declared.stop.Stop.TheVariants.{At}
 use Rattle.grammar_laws.specs.Parsers.{◌>>=◌, pure}
 use Rattle.grammar_laws.specs.Reading.{Inner}

@@ -1,6 +1,6 @@
 -- The reader one level further in.
 use Rattle.std.proofs.Common.{◌≡◌, ℕ, ◌-◌, ◌<◌, Err, ap, length}
-use Rattle.pascal_tree.specs.Tokens.{Toks}
+use Rattle.dice_base.specs.Tokens.{Toks}
 use Rattle.grammar_laws.specs.declared.stop.Stop.TheVariants.{Deep}
 use Rattle.grammar_laws.specs.Reading.{inside}
 use Rattle.grammar_laws.specs.StmtReading.{statement, stmt_in}

@@ -3,7 +3,7 @@ use Rattle.std.specs.Prelude.{◌≡◌, [], ◌++◌}
 use Rattle.std.proofs.Common.{refl, sym, subst, ◌∙◌}
 use Rattle.std.proofs.lemmas.List.{append-nil}
 use Rattle.pascal_tree.specs.declared.stmt.Stmt.{Stmt}
-use Rattle.pascal_tree.specs.Tokens.{Toks}
+use Rattle.dice_base.specs.Tokens.{Toks}
 use Rattle.pascal_tree.specs.Statements.{stmt_at}
 use Rattle.grammar_laws.specs.StmtReading.{stmt_in}
 use Rattle.grammar_laws.proofs.Rules.{ok}

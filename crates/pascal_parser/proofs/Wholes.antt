@@ -1,6 +1,6 @@
 -- Reading all the tokens.
 use Rattle.std.proofs.Common.{◌≡◌, ◌≤◌, [], ◌∷◌, length, arith, Ok, Err, sym, ◌∙◌}
-use Rattle.pascal_tree.specs.Tokens.{Toks}
+use Rattle.dice_base.specs.Tokens.{Toks}
 use Rattle.grammar_laws.specs.declared.stop.Stop.{Stop}
 use Rattle.grammar_laws.specs.declared.stop.Stop.TheVariants.{Memory, At, Deep}
 use Rattle.grammar_laws.specs.Parsers.{Outcome}

@@ -3,7 +3,7 @@ use Rattle.std.specs.Prelude.{ℕ, ◌<◌, Result}
 use Rattle.std.specs.declared.alloc.Global.{Global}
 use denote.Ref.{MutBor}
 use Rattle.pascal_tree.specs.declared.stmt.Stmt.{Stmt}
-use Rattle.pascal_tree.specs.Tokens.{Toks}
+use Rattle.dice_base.specs.Tokens.{Toks}
 use Rattle.grammar_laws.specs.declared.stop.Stop.{Stop}
 use Rattle.grammar_laws.specs.Parsers.{Reads}
 use Rattle.grammar_laws.specs.Reading.{inside}

@@ -1,8 +1,7 @@
 pub mod Expressions
-pub mod Forms
+pub mod Declarations
 pub mod Programs
 pub mod Statements
-pub mod Tokens
 pub mod Classes
 pub mod Joined
 pub mod ExprTokens

@@ -13,7 +13,7 @@ use Rattle.dice_base.specs.declared.name.Name.{Name}
 use Rattle.pascal_tree.specs.Naming.{Numbering, list_numbering, kind_in_turn, arm_in_turn, stmt_in_turn, stmt_numbering, kind_numbering, arm_numbering}
 use Rattle.pascal_tree.specs.Names.{stmt_renaming}
 use Rattle.pascal_tree.specs.Paths.{ItemValue, OfProgram, OfDecl, OfRoutine, OfStmt, kind_parts, arm_body, stmt_children, item_children}
-use Rattle.pascal_tree.specs.Tokens.{Toks}
+use Rattle.dice_base.specs.Tokens.{Toks}
 use Rattle.pascal_tree.specs.Rows.{Row, Rows, arm_text, hole, label_part, own_arm, own_kind, own_stmt, rows_from, stmt_rows}
 use Rattle.program_tree.proofs.Induction.{stmt_has}
 use Rattle.program_tree.proofs.Opened.{stmt_opened}

@@ -1,12 +1,12 @@
 //! The tokens that are left.
-ghost use Rattle.std.specs.Prelude.{◌≡◌, length, map};
-ghost use Rattle.pascal_tree.specs.Tokens.{class_at};
-ghost use Rattle.grammar_laws.specs.Parsers as spec;
-ghost use Rattle.grammar_laws.specs.Parsers.{Reads};
+ghost use Rattle.std.specs.Prelude.{◌≡◌, length, map, drop};
+ghost use Rattle.dice_base.specs.Tokens.{class_at};
+ghost use Rattle.token_reader.specs.Readers as spec;
+ghost use Rattle.token_reader.specs.Readers.{Reads};
 
+use crate::Stop;
 use crate::classes::{END_OF_TOKENS, class};
 use dice_base::{Text, Token, TokenKind};
-use grammar_laws::Stop;
 use std::alloc::Global;
 use std::marker::Model;
 
@@ -18,7 +18,7 @@ pub struct Cursor<'a> {
 
 impl<'a> Model for Cursor<'a> {
     ghost use Rattle.std.specs.Prelude.{map};
-    ghost use Rattle.pascal_tree.specs.Tokens.{Toks};
+    ghost use Rattle.dice_base.specs.Tokens.{Toks};
 
     ghost Value = { Toks };
 
@@ -51,68 +51,71 @@ impl<'a> Cursor<'a> {
     }
 
     /// Passes a token.
-    #[tactic(auto, unfolding(grammar_laws::specs::Parsers::next))]
     pub fn skip(&mut self)
-        ensures { self.new ≡ spec.next self.old }
+        ensures { self.new ≡ drop 1 self.old }
     {
         if let [_, rest @ ..] = self.rest {
             self.rest = rest;
         }
     }
 
-    /// Why nothing takes the next token.
-    pub fn refuse(&self) -> Stop
-        ensures { result ≡ Stop.At (length self.now) }
-    {
-        Stop::At(self.len())
-    }
-
-    /// Why no level begins here.
-    pub fn too_deep(&self) -> Stop
-        ensures { result ≡ Stop.Deep (length self.now) }
-    {
-        Stop::Deep(self.len())
-    }
-
     /// Takes a token of this class.
-    #[tactic(auto, unfolding(grammar_laws::specs::Parsers::expect, grammar_laws::specs::Parsers::sees))]
-    pub fn expect(&mut self, class: u16) -> Result<(), Stop>
-        ensures { Reads (spec.expect class self.old) result self.new }
+    #[tactic(auto, unfolding(crate::specs::Readers::expect))]
+    pub fn expect(&mut self, wanted: u16) -> Result<(), Stop>
+        ensures { Reads (spec.expect wanted self.old) result self.new }
     {
-        if self.class() == class {
-            self.skip();
-            Ok(())
-        } else {
-            Err(self.refuse())
+        let [token, rest @ ..] = self.rest else {
+            return Err(Stop::At);
+        };
+        if class(&token.kind) != wanted {
+            return Err(Stop::At);
         }
+        self.rest = rest;
+        Ok(())
     }
 
     /// Takes an identifier.
-    #[tactic(auto, unfolding(grammar_laws::specs::Parsers::ident))]
+    #[tactic(auto, unfolding(crate::specs::Readers::ident))]
     pub fn ident(&mut self, alloc: Global) -> Result<Text, Stop>
         ensures { Reads (spec.ident self.old) result self.new }
     {
         let [token, rest @ ..] = self.rest else {
-            return Err(Stop::At(0));
+            return Err(Stop::At);
         };
         let TokenKind::Ident(x) = &token.kind else {
-            return Err(self.refuse());
+            return Err(Stop::At);
         };
         let ident = x.copy(alloc)?;
         self.rest = rest;
         Ok(ident)
     }
 
+    /// Takes a character string, without its quotes.
+    #[tactic(auto, unfolding(crate::specs::Readers::string))]
+    pub fn string(&mut self, alloc: Global) -> Result<Text, Stop>
+        ensures { Reads (spec.string self.old) result self.new }
+    {
+        let [token, rest @ ..] = self.rest else {
+            return Err(Stop::At);
+        };
+        let TokenKind::Str(x) = &token.kind else {
+            return Err(Stop::At);
+        };
+        let string = x.copy(alloc)?;
+        self.rest = rest;
+        Ok(string)
+    }
+
     /// Takes a number.
-    #[tactic(auto, unfolding(grammar_laws::specs::Parsers::number))]
+    #[tactic(auto, unfolding(crate::specs::Readers::number))]
     pub fn number(&mut self) -> Result<u16, Stop>
         ensures { Reads (spec.number self.old) result self.new }
     {
         let [token, rest @ ..] = self.rest else {
-            return Err(Stop::At(0));
+            return Err(Stop::At);
         };
         let TokenKind::Number(n) = token.kind else {
-            return Err(self.refuse());
+            return Err(Stop::At);
         };
         self.rest = rest;
         Ok(n)
