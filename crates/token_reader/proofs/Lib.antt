@@ -4,5 +4,6 @@ pub mod Levels
 pub mod Loops
 pub mod Prefixes
 pub mod Rules
+pub mod Settled
 pub mod Tables
 pub mod Turns

@@ -7,7 +7,11 @@
 
 pub mod classes;
 mod cursor;
+mod fault;
 mod stop;
+mod whole;
 
 pub use cursor::Cursor;
+pub use fault::ParseFault;
 pub use stop::Stop;
+pub use whole::read_all;
