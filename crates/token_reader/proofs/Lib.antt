@@ -3,6 +3,7 @@ pub mod Laws
 pub mod Levels
 pub mod Loops
 pub mod Prefixes
+pub mod Reading
 pub mod Rules
 pub mod Settled
 pub mod Tables

@@ -46,6 +46,15 @@ Answers v (Err fault.EndsEarly) = v ≡ Err EndsInside
 Answers v (Err fault.TooDeep) = v ≡ Err PassesLevels
 Answers v (Err fault.NoMemory) = Unit {0}
 
+-- a result that is made of another: a value of its value, unless memory runs out, or its fault
+abbrev pub Makes : {A B : Type 0} → (A → B) → Result A ParseFault → Result B ParseFault → Type 0
+Makes make (Ok a) (Ok b) = b ≡ make a
+Makes make (Ok a) (Err fault.NoMemory) = Unit {0}
+Makes make (Ok a) (Err (fault.Unexpected i)) = ⊥
+Makes make (Ok a) (Err fault.EndsEarly) = ⊥
+Makes make (Ok a) (Err fault.TooDeep) = ⊥
+Makes make (Err e) result = result ≡ Err e
+
 -- of the outcome with one level more, where the first left so many tokens
 abbrev pub judged_again : {A : Type 0} → Outcome A → ℕ → ℕ → Result A Fault
 judged_again more left n = if length more.1 == left then second more.0 more.1 n else Err PassesLevels
