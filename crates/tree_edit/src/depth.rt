@@ -1,6 +1,6 @@
 //! How many levels a tree takes.
 ghost use Rattle.std.specs.Prelude.{◌≡◌, ◌+◌, max, map, IfOk};
-ghost use Rattle.tree_edit.specs.Depth as spec;
+ghost use Rattle.pascal_tree.specs.Depth as spec;
 
 use dice_base::{NoMemory, one_more};
 use pascal_tree::{
