@@ -27,6 +27,10 @@ constant_ends = colon_class ∷ range_class ∷ simple_ends
 abbrev pub idents_ends : Classes
 idents_ends = close_class ∷ colon_class ∷ []
 
+-- the end stands in the table of each item of a list
+abbrev pub section_ends : Classes
+section_ends = close_class ∷ decl_ends
+
 abbrev pub simple_first : Classes
 simple_first = open_class ∷ constant_first
 

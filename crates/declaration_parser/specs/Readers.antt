@@ -53,18 +53,20 @@ enumeration = do
   expect close_class
   pure (typed.Enumeration xs)
 
--- an identifier, and by what follows it a subrange type or a type identifier
-unfoldable pub by_ident : Parser TypeText
-by_ident = ident >>= (λ x.
-    on range_class (constant >>= (λ last. pure (typed.Range (value.Named prefix.Without x) last)))
-    (pure (typed.Named x)))
-
-unfoldable pub subrange : Parser TypeText
-subrange = do
-  first ← literal
+-- the rest of a subrange type
+unfoldable pub range_from : Constant → Parser TypeText
+range_from first = do
   expect range_class
   last ← constant
   pure (typed.Range first last)
+
+-- an identifier, and by what follows it a subrange type or a type identifier
+unfoldable pub by_ident : Parser TypeText
+by_ident = ident >>= (λ x.
+    by (range_class ∷ []) (range_from (value.Named prefix.Without x)) (pure (typed.Named x)))
+
+unfoldable pub subrange : Parser TypeText
+subrange = literal >>= range_from
 
 unfoldable pub simple : Parser TypeText
 simple = on open_class enumeration (by (ident_class ∷ []) by_ident subrange)
@@ -177,13 +179,15 @@ section_rest by_place = do
 unfoldable pub section : Parser Section
 section = on var_class (section_rest true) (section_rest false)
 
+-- what follows `(`
+unfoldable pub params_rest : Parser (List Section)
+params_rest = do
+  ss ← separated semicolon_class section
+  expect close_class
+  pure ss
+
 unfoldable pub params : Parser (List Section)
-params =
-    on open_class (do
-      ss ← separated semicolon_class section
-      expect close_class
-      pure ss)
-    (pure [])
+params = on open_class params_rest (pure [])
 
 -- what follows `procedure`
 unfoldable pub procedure_rest : Parser Heading
