@@ -64,7 +64,6 @@ fn read_heading(alloc: Global, tokens: &[Token]) -> Result<Heading, ParseFault>
 }
 
 /// The heading that the tokens are (6.6.1, 6.6.2).
-#[tactic(auto, using(crate::proofs::Readings::heading_reading))]
 pub fn parse_heading(alloc: Global, tokens: &[Token]) -> Result<Heading, ParseFault>
     requires { length tokens.now ≤ 65536 }
     ensures { IsReading heading_at LEVELS (λ h. h) (kinds tokens.now) result }
