@@ -64,7 +64,7 @@ word_symbol = place_of (map (λ w. w.now) WORD_SYMBOLS)
 unfoldable pub sign_of : List ℕ → Option ℕ
 sign_of = place_of (map (λ s. s.now) SIGNS)
 
--- the number of the sign that an alternative token is (6.1.9)
+-- the sign that an alternative token is (6.1.9)
 unfoldable pub alternative_of : List ℕ → Option ℕ
 alternative_of w =
     if bytes_eq w (codes "@") then sign_of (codes "^")
@@ -95,6 +95,25 @@ pub data Lexeme : List ℕ → TokenKind → Type 0 where
   alternative : (w : List ℕ) (k : ℕ) → alternative_of w ≡ Some k → Lexeme w (Sign k)
   hole : Lexeme (35 ∷ []) Hole
 
+-- what opens a comment, and what closes it (6.1.8)
+pub data Opens : List ℕ → Type 0 where
+  brace_opens : Opens (codes "{")
+  star_opens : Opens (codes "(*")
+
+pub data Closes : List ℕ → Type 0 where
+  brace_closes : Closes (codes "}")
+  star_closes : Closes (codes "*)")
+
+-- the text is a comment: either opening, then a text that contains no closing, then either closing
+pub record IsComment (text : List ℕ) : Type 0 where
+  pub opening : List ℕ
+  pub commentary : List ℕ
+  pub closing : List ℕ
+  pub parts : text ≡ opening ++ commentary ++ closing
+  pub opens : Opens opening
+  pub inside : (before w after : List ℕ) → commentary ≡ before ++ w ++ after → Closes w → ⊥
+  pub closes : Closes closing
+
 -- a comment opens at the front of a text: `{` or `(*`
 abbrev pub opens_comment : List ℕ → Bool
 opens_comment [] = false
@@ -120,25 +139,6 @@ pub record Takes (text : List ℕ) (token : TokenKind) (rest : List ℕ) : Type 
   pub longest : (w r : List ℕ) (other : TokenKind) → text ≡ w ++ r → Lexeme w other → length w ≤ length lexeme
   pub follows : MayFollow token rest
   pub plain : opens_comment text ≡ false
-
--- what opens a comment, and what closes it (6.1.8)
-pub data Opens : List ℕ → Type 0 where
-  brace_opens : Opens (codes "{")
-  star_opens : Opens (codes "(*")
-
-pub data Closes : List ℕ → Type 0 where
-  brace_closes : Closes (codes "}")
-  star_closes : Closes (codes "*)")
-
--- the text is a comment: behind either opening a text that contains no closing, and then either closing
-pub record IsComment (text : List ℕ) : Type 0 where
-  pub opening : List ℕ
-  pub commentary : List ℕ
-  pub closing : List ℕ
-  pub parts : text ≡ opening ++ commentary ++ closing
-  pub opens : Opens opening
-  pub inside : (before w after : List ℕ) → commentary ≡ before ++ w ++ after → Closes w → ⊥
-  pub closes : Closes closing
 
 -- the text begins with what separates tokens: a blank or an end of line, or a comment
 pub data Skips : List ℕ → List ℕ → Type 0 where

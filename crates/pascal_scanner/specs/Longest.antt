@@ -45,6 +45,11 @@ element_of (c ∷ d ∷ rest) =
 
 -- ---- comments (6.1.8)
 
+-- the length of the `{` or `(*` at the front of a text at which a comment opens
+abbrev pub opening_len : List ℕ → ℕ
+opening_len [] = 0
+opening_len (c ∷ rest) = if c == 123 then 1 else 2
+
 -- the length of the `}` or `*)` at the front of a text
 abbrev pub closing_len : List ℕ → Option ℕ
 closing_len [] = None

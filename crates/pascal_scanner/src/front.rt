@@ -7,9 +7,9 @@ ghost use Rattle.pascal_scanner.specs.Longest.{front};
 ghost use Rattle.pascal_scanner.specs.Longest as longest;
 ghost use Rattle.pascal_scanner.specs.Progress.{Steps, Stops};
 
-use crate::comments::{comment_step, opens_comment};
-use crate::signs::{place_of, sign_step};
-use crate::strings::{opens_string, string_step};
+use crate::comment::{comment_step, opens_comment};
+use crate::sign::{place_of, sign_step};
+use crate::string::{opens_string, string_step};
 use dice_base::{ByteClass, NoMemory, Text, TokenKind, WORD_SYMBOLS, byte_class};
 use std::alloc::Global;
 
@@ -101,6 +101,7 @@ fn number_of(digits: &[u8]) -> Option<u16>
     Some(value as u16)
 }
 
+#[tactic(auto, unfolding(dice_base::specs::Lexemes::word_symbol))]
 fn word_symbol(piece: &[u8]) -> Option<u8>
     ensures { result ≡ lex.word_symbol piece.now }
 {

@@ -1,13 +1,13 @@
 //! Cuts a text into tokens.
 #![tactic(auto)]
 
-mod comments;
+mod comment;
 mod cut;
 mod fault;
 mod front;
 mod limits;
-mod signs;
-mod strings;
+mod sign;
+mod string;
 
 pub use cut::scan;
 pub use fault::ScanFault;

@@ -22,22 +22,34 @@ pub fn place_of(table: &[&[u8]], piece: &[u8]) -> Option<u8>
 }
 
 // The sign that an alternative token is.
+#[tactic(auto, unfolding(dice_base::specs::Lexemes::alternative_of, dice_base::specs::Lexemes::sign_of))]
 fn alternative_of(piece: &[u8]) -> Option<u8>
     ensures { result ≡ lex.alternative_of piece.now }
 {
-    match piece {
-        b"@" => Some(signs::ARROW),
-        b"(." => Some(signs::LEFT),
-        b".)" => Some(signs::RIGHT),
-        _ => None,
+    if piece == b"@".as_slice() {
+        Some(signs::ARROW)
+    } else if piece == b"(.".as_slice() {
+        Some(signs::LEFT)
+    } else if piece == b".)".as_slice() {
+        Some(signs::RIGHT)
+    } else {
+        None
     }
 }
 
-// The sign of this spelling.
-fn sign_of(piece: &[u8]) -> Option<u8>
+// The sign that stands in the table of signs.
+#[tactic(auto, unfolding(dice_base::specs::Lexemes::sign_of))]
+fn reference_of(piece: &[u8]) -> Option<u8>
+    ensures { result ≡ lex.sign_of piece.now }
+{
+    place_of(&SIGNS, piece)
+}
+
+// The sign of a spelling.
+fn spelled_sign(piece: &[u8]) -> Option<u8>
     ensures { result ≡ longest.spelled_sign piece.now }
 {
-    match place_of(&SIGNS, piece) {
+    match reference_of(piece) {
         Some(number) => Some(number),
         None => alternative_of(piece),
     }
@@ -48,7 +60,7 @@ fn pair_sign(text: &[u8]) -> Option<u8>
     ensures within { IfSome result (λ _. 2 ≤ length text.now) }
 {
     match text {
-        [first, second, ..] => sign_of(&[*first, *second]),
+        [first, second, ..] => spelled_sign(&[*first, *second]),
         _ => None,
     }
 }
@@ -57,7 +69,7 @@ fn single_sign(text: &[u8]) -> Option<u8>
     ensures { result ≡ longest.single_sign text.now }
 {
     match text {
-        [first, ..] => sign_of(&[*first]),
+        [first, ..] => spelled_sign(&[*first]),
         [] => None,
     }
 }
