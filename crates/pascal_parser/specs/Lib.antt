@@ -1,2 +1,1 @@
-pub mod NestsStmt
-pub mod Whole
+pub mod Named

@@ -257,6 +257,31 @@ module _ {A B C V : Type 0} (g : Form A) (h : A → Bool → Form B) (make : A �
   pub regroup : Same Flat Whole
   regroup = record { to = flat_whole; from = whole_flat; to_front = flat_front; from_front = whole_front }
 
+-- three one after another, where the grammar has the first two as one part
+pub group : {A B V : Type 0} (g : Form A) (h : A → Bool → Form B) (k : B → Bool → Form V) → Same (chain g (λ a w. chain (h a w) k)) (chain (chain g h) k)
+group {A} {B} {V} g h k = record { to = to; from = from; to_front = to_front; from_front = from_front } where
+  left_text : (u x y y1 y2 : Toks) → u ≡ x ++ y → y ≡ y1 ++ y2 → u ≡ (x ++ y1) ++ y2
+  left_text u x y y1 y2 e e' = e ∙ (ap (λ (z : Toks). x ++ z) e' ∙ sym (append_assoc x y1 y2))
+
+  right_text : (u z y2 x y1 : Toks) → u ≡ z ++ y2 → z ≡ x ++ y1 → u ≡ x ++ (y1 ++ y2)
+  right_text u z y2 x y1 e e' = e ∙ (ap (λ (t : Toks). t ++ y2) e' ∙ append_assoc x y1 y2)
+
+  to : (b : V) (v : Bool) (u : Toks) → (chain g (λ a w. chain (h a w) k)).full b v u → (chain (chain g h) k).full b v u
+  to b v u (a, w, x, y, e, q, (c, w', y1, y2, e', q', r)) = (c, w', x ++ y1, y2, left_text u x y y1 y2 e e', (a, w, x, y1, refl, q, q'), r)
+
+  from : (b : V) (v : Bool) (u : Toks) → (chain (chain g h) k).full b v u → (chain g (λ a w. chain (h a w) k)).full b v u
+  from b v u (c, w', z, y2, e, (a, w, x, y1, e', q, q'), r) = (a, w, x, y1 ++ y2, right_text u z y2 x y1 e e', q, (c, w', y1, y2, refl, q', r))
+
+  to_front : (u : Toks) → (chain g (λ a w. chain (h a w) k)).front u → (chain (chain g h) k).front u
+  to_front u (inl q) = inl (inl q)
+  to_front u (inr (a, w, x, y, e, q, inl r)) = inl (inr (a, w, x, y, e, q, r))
+  to_front u (inr (a, w, x, y, e, q, inr (c, w', y1, y2, e', q', r))) = inr (c, w', x ++ y1, y2, left_text u x y y1 y2 e e', (a, w, x, y1, refl, q, q'), r)
+
+  from_front : (u : Toks) → (chain (chain g h) k).front u → (chain g (λ a w. chain (h a w) k)).front u
+  from_front u (inl (inl q)) = inl q
+  from_front u (inl (inr (a, w, x, y, e, q, r))) = inr (a, w, x, y, e, q, inl r)
+  from_front u (inr (c, w', z, y2, e, (a, w, x, y1, e', q, q'), r)) = inr (a, w, x, y1 ++ y2, right_text u z y2 x y1 e e', q, inr (c, w', y1, y2, refl, q', r))
+
 module _ {I : Type 0} {R : I → I → Type 0} where
   -- ---- nothing
 

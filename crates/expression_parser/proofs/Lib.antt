@@ -1,0 +1,2 @@
+pub mod ExprLevels
+pub mod ExprRules

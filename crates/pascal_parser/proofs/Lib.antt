@@ -1,4 +1,0 @@
-pub mod Calls
-pub mod Levels
-pub mod StmtWholes
-pub mod Wholes
