@@ -17,20 +17,21 @@ fn settle<A: Drop>(outcome: Result<A, Stop>, rest: &Cursor<'_>, all: usize) -> R
     ensures { Settles outcome (settled outcome rest.now all) result }
 {
     let left = rest.len();
+    let place = all.saturating_sub(left) as u32;
     match outcome {
         Err(Stop::Memory) => Err(ParseFault::NoMemory),
         Ok(value) => {
             if left == 0 {
                 Ok(value)
             } else {
-                Err(ParseFault::Unexpected(all.saturating_sub(left) as u32))
+                Err(ParseFault::Unexpected(place))
             }
         }
         Err(_) => {
             if left == 0 {
                 Err(ParseFault::EndsEarly)
             } else {
-                Err(ParseFault::Unexpected(all.saturating_sub(left) as u32))
+                Err(ParseFault::Unexpected(place))
             }
         }
     }
