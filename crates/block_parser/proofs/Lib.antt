@@ -1,0 +1,2 @@
+pub mod BlockLevels
+pub mod BlockRules
