@@ -1,5 +1,5 @@
 -- The rules of constants, types, declarations and headings: all laws of each.
-use Rattle.std.specs.Prelude.{◌≡◌, ℕ, Bool, true, false, ◌&&◌, List, [], ◌∷◌, ◌++◌, Option, Some, None}
+use Rattle.std.specs.Prelude.{◌≡◌, Bool, true, false, ◌&&◌, [], ◌∷◌, Some, None}
 use Rattle.std.proofs.Common.{refl, inl}
 use Rattle.dice_base.specs.Tokens.{Classes, end_of_tokens, operator_of, keys}
 use Rattle.dice_base.specs.Forms.{Form, just, one, token, chain, either, list_of, named, numeral, quoted}
@@ -10,7 +10,6 @@ use Rattle.pascal_tree.specs.declared.stmt.Constant.TheVariants as value
 use Rattle.pascal_tree.specs.declared.typing.TypeText.{TypeText}
 use Rattle.pascal_tree.specs.declared.typing.TypeText.TheVariants as typed
 use Rattle.pascal_tree.specs.declared.decl.DeclKind.TheVariants as kind
-use Rattle.pascal_tree.specs.declared.decl.Section.{Section}
 use Rattle.pascal_tree.specs.Classes.{ident_class, number_class, string_class, array_class, const_class, end_class, function_class, label_class, of_class, packed_class, procedure_class, record_class, set_class, type_class, var_class, equal_class, open_class, close_class, left_class, right_class, comma_class, semicolon_class, colon_class, range_class, arrow_class}
 use Rattle.pascal_tree.specs.Expressions.{signs}
 use Rattle.pascal_tree.specs.Declarations as form

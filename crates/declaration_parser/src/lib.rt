@@ -7,9 +7,11 @@
 mod consts;
 mod decls;
 mod headings;
+mod names;
 mod types;
 
 pub use consts::{constant, constants};
 pub use decls::{constdef, decl, labels, typedef, vardef};
-pub use headings::{heading, idents};
+pub use headings::heading;
+pub use names::idents;
 pub use types::declared_type;
