@@ -1,3 +1,5 @@
 pub mod Written
 pub mod ExprTrees
 pub mod ExprWritten
+pub mod DeclWritten
+pub mod EventTokens

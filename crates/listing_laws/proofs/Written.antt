@@ -258,8 +258,9 @@ module _ {P : TokenKind → Type 0} where
   pub items : {A : Type 0} {g : Form A} {item : A → Toks} → Written P g item → Written P (rows g) (λ xs. flat (map item xs))
   items r = items_behind [] r (λ more. refl)
 
-  pub some_items : {A : Type 0} {g : Form A} {item : A → Toks} → Written P g item → Written P (some_rows g) (λ xs. flat (map item xs))
-  some_items r = behind r (λ x w. items_behind (x ∷ []) r (λ more. refl))
+  pub some_items : {A : Type 0} {before : Toks → Toks} {g : Form A} {item : A → Toks} {own : List A → Toks}
+      → Written P g item → ((x : A) (more : List A) → own (x ∷ more) ≡ before (item x ++ flat (map item more))) → Writes P before (some_rows g) own
+  some_items r is = behind r (λ x w. items_behind (x ∷ []) r (λ more. is x more))
 
   separated : {A : Type 0} {g : Form A} {item : A → Toks} {c : ℕ} {s : TokenKind} → IsClassOf c s → Written P g item → Written P (token c g) (λ a. s ∷ item a)
   separated {A} {g} {item} {c} {s} is r = mark is (after (λ z. s ∷ z) r)
