@@ -6,7 +6,7 @@ use Rattle.dice_base.specs.declared.token.TokenKind.TheVariants.{Ident}
 use Rattle.dice_base.specs.declared.symbols.words.TheConstants as words
 use Rattle.dice_base.specs.declared.symbols.signs.TheConstants as signs
 use Rattle.dice_base.specs.Tokens.{Toks}
-use Rattle.dice_base.specs.Forms.{Form}
+use Rattle.dice_base.specs.Forms.{Form, list_of}
 use Rattle.dice_base.specs.Symbols.{array_word, end_word, of_word, record_word, set_word, open_sign, close_sign, left_sign, right_sign, semicolon_sign, colon_sign, range_sign, arrow_sign}
 use Rattle.pascal_tree.specs.declared.stmt.Constant.{Constant}
 use Rattle.pascal_tree.specs.declared.typing.TypeText.{TypeText, TypeText-F, roll-TypeText, map-TypeText}
@@ -14,12 +14,12 @@ use Rattle.pascal_tree.specs.declared.typing.TypeText.TheVariants as typed
 use Rattle.pascal_tree.specs.declared.typing.TypeText.TheVariants.{rolls-Named, rolls-Enumeration, rolls-Range, rolls-Pointer, rolls-Array, rolls-SetOf, rolls-RecordOf}
 use Rattle.pascal_tree.specs.declared.typing.TypeText.TheFolds.{fold-roll-TypeText, fold-roll-FieldText}
 use Rattle.pascal_tree.specs.declared.typing.FieldText.{FieldText}
-use Rattle.pascal_tree.specs.Classes.{semicolon_class}
+use Rattle.pascal_tree.specs.Classes.{comma_class, semicolon_class}
 use Rattle.pascal_tree.specs.Joined.{join}
 use Rattle.pascal_tree.specs.Expressions.{signs}
 use Rattle.pascal_tree.specs.Declarations.{make_field, constant_form, idents_form, simple_form, field_form, record_in, array_in, set_in, struct_form, type_form, simple_at, type_at, labels_form, constdef_form, typedef_form, vardef_form, section_in, section_form, params_form, procedure_in, function_in, heading_form}
 use Rattle.pascal_tree.specs.ExprTokens.{prefix_tokens, comma_list, in_parens}
-use Rattle.pascal_tree.specs.DeclTokens.{constant_tokens, idents_tokens, packed_tokens, in_type, in_field, type_tokens, field_tokens, decl_tokens, var_tokens, section_tokens, heading_tokens}
+use Rattle.pascal_tree.specs.DeclTokens.{constant_tokens, constants_tokens, idents_tokens, packed_tokens, in_type, in_field, type_tokens, field_tokens, decl_tokens, var_tokens, section_tokens, heading_tokens}
 use Rattle.listing_laws.proofs.Written.{IsClassOf, sign_is, Writes, Written, done, refused, choice, behind, last, word, sign, operators, identifier, number, string, list, ended, parens}
 use Rattle.listing_laws.proofs.ExprWritten.{sign_classes, comma_is}
 
@@ -69,7 +69,7 @@ pub semicolon_is : IsClassOf semicolon_class semicolon_sign
 semicolon_is = sign_is signs.SEMICOLON
 
 module _ {P : TokenKind → Type 0} where
-  pub constant-written : Written P constant_form constant_tokens
+  constant-written : Written P constant_form constant_tokens
   unfolding constant_tokens
   constant-written =
       choice (last identifier (λ x w. refl))
@@ -77,6 +77,10 @@ module _ {P : TokenKind → Type 0} where
       (choice (last number (λ n w. refl))
       (behind (operators prefix_tokens signs sign_classes) (λ p w.
       choice (last number (λ n w. refl)) (last identifier (λ x w. refl))))))
+
+  pub constants-written : Written P (list_of comma_class constant_form) constants_tokens
+  unfolding constants_tokens
+  constants-written = list comma_is constant-written
 
   idents-written : Written P idents_form idents_tokens
   unfolding idents_tokens

@@ -7,7 +7,7 @@ use Rattle.dice_base.specs.declared.token.TokenKind.TheVariants.{Ident}
 use Rattle.dice_base.specs.Tokens.{Toks}
 use Rattle.dice_base.specs.declared.symbols.words.TheConstants as words
 use Rattle.dice_base.specs.declared.symbols.signs.TheConstants as signs
-use Rattle.dice_base.specs.Forms.{Form}
+use Rattle.dice_base.specs.Forms.{Form, list_of}
 use Rattle.dice_base.specs.Symbols.{and_word, div_word, in_word, mod_word, or_word, plus_sign, minus_sign, times_sign, equal_sign, not_equal_sign, less_sign, greater_sign, at_most_sign, at_least_sign, left_sign, open_sign, close_sign, comma_sign, colon_sign, range_sign}
 use Rattle.pascal_tree.specs.declared.expr.Expr.{Expr}
 use Rattle.pascal_tree.specs.declared.expr.Arg.{Arg}
@@ -16,7 +16,7 @@ use Rattle.pascal_tree.specs.declared.expr.Factor.TheVariants as f
 use Rattle.pascal_tree.specs.Classes.{comma_class}
 use Rattle.pascal_tree.specs.Joined.{optional_part, optional_part_after}
 use Rattle.pascal_tree.specs.Expressions.{mul_ops, add_ops, rel_ops, signs, part_form, access_form, width_form, arg_form, args_in, args_form, last_form, member_form, members_in, factor_form, sign_form, mul_form, term_form, add_form, sum_form, rel_form, expr_form, expr_at, factor_at}
-use Rattle.pascal_tree.specs.ExprTokens.{prefix_tokens, mul_token, add_token, rel_token, comma_list, expr_tokens, relation_tokens, sum_tokens, adding_tokens, term_tokens, multiplying_tokens, factor_tokens, member_tokens, arg_tokens, args_tokens, access_tokens, part_tokens}
+use Rattle.pascal_tree.specs.ExprTokens.{prefix_tokens, mul_token, add_token, rel_token, comma_list, expr_tokens, relation_tokens, sum_tokens, adding_tokens, term_tokens, multiplying_tokens, factor_tokens, member_tokens, arg_tokens, args_tokens, access_tokens, accesses_tokens, part_tokens}
 use Rattle.listing_laws.proofs.Written.{IsClassOf, word_is, sign_is, AreClasses, Writes, Written, done, refused, choice, behind, last, last_known, word, sign, operators, identifier, number, string, items, list, parens, in-parens}
 use Rattle.listing_laws.proofs.ExprTrees.{expr-made, rel-made, sum-made, add-made, term-made, mul-made, number-made, string-made, nil-made, variable-made, call-made, members-made, paren-made, not-made, member-made, arg-made, access-made, index-made, field-made, deref-made}
 
@@ -59,6 +59,10 @@ module _ {P : TokenKind → Type 0} {E : Form Expr} (inner : Written P E expr_to
 
   pub access-written : Written P (access_form E) access_tokens
   access-written = behind identifier (λ x w. last (items part-written) (λ parts w. access-made x parts))
+
+  pub accesses-written : Written P (list_of comma_class (access_form E)) accesses_tokens
+  unfolding accesses_tokens
+  accesses-written = list comma_is access-written
 
   width-written : Written P (width_form E) (λ width. optional_part_after colon_sign (option_map expr_tokens width))
   width-written = choice (sign signs.COLON (last inner (λ e w. refl))) (done refl)

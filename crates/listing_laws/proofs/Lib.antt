@@ -3,3 +3,4 @@ pub mod ExprTrees
 pub mod ExprWritten
 pub mod DeclWritten
 pub mod EventTokens
+pub mod ProgramWritten

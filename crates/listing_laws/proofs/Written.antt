@@ -28,7 +28,7 @@ module _ (P : TokenKind → Type 0) where
   all-append [] y h k = k
   all-append (t ∷ x) y h k = (h.0, all-append x y h.1 k)
 
-abbrev some_of : {A : Type 0} → A → Option A
+abbrev pub some_of : {A : Type 0} → A → Option A
 some_of a = Some a
 
 -- ---- the one token of a class

@@ -1,0 +1,114 @@
+-- Statements, blocks and programs are spelled by their own tokens.
+use Rattle.std.specs.Prelude.{◌≡◌, ℕ, zero, suc, ◌+◌, Bool, true, false, cond, List, [], ◌∷◌, ◌++◌, Option, Some, None, map, codes, bytes_eq}
+use Rattle.std.proofs.Common.{refl, sym, ap, ◌∙◌, append-nil}
+use Rattle.std.specs.Cmp.Lexicographic.{same_text}
+use Rattle.std.specs.List.{AllByRecursion}
+use Rattle.dice_base.specs.declared.token.TokenKind.{TokenKind}
+use Rattle.dice_base.specs.declared.token.TokenKind.TheVariants.{Word, Ident, Number, Str, Sign, Hole}
+use Rattle.dice_base.specs.declared.symbols.words.TheConstants as words
+use Rattle.dice_base.specs.declared.symbols.signs.TheConstants as signs
+use Rattle.dice_base.specs.Tokens.{Toks}
+use Rattle.dice_base.specs.Forms.{Form, just, one}
+use Rattle.dice_base.specs.Symbols.{const_word, downto_word, else_word, if_word, then_word, to_word, type_word, var_word, comma_sign, semicolon_sign}
+use Rattle.pascal_tree.specs.declared.levels.TheConstants.{LEVELS}
+use Rattle.pascal_tree.specs.declared.expr.Expr.{Expr}
+use Rattle.pascal_tree.specs.declared.stmt.Stmt.{Stmt}
+use Rattle.pascal_tree.specs.declared.stmt.StmtKind.{StmtKind}
+use Rattle.pascal_tree.specs.declared.stmt.StmtKind.TheVariants as s
+use Rattle.pascal_tree.specs.declared.typing.TypeText.{TypeText}
+use Rattle.pascal_tree.specs.declared.decl.DeclKind.{DeclKind}
+use Rattle.pascal_tree.specs.declared.decl.Routine.{Routine}
+use Rattle.pascal_tree.specs.declared.decl.Block.{Block}
+use Rattle.pascal_tree.specs.declared.program.Tree.{Tree}
+use Rattle.pascal_tree.specs.Classes.{semicolon_class}
+use Rattle.pascal_tree.specs.Expressions.{access_form, expr_at}
+use Rattle.pascal_tree.specs.Statements.{directions, assign_form, call_form, compound_in, else_form, if_in, arm_form, case_in, while_in, repeat_in, for_in, with_in, kind_form, stmt_form, stmt_at}
+use Rattle.pascal_tree.specs.Programs.{ended_form, labels_part, decls_part, forward_of, block_form, routine_form, files_form, program_form, body_at, routine_at, block_at, program_at, Derives}
+use Rattle.pascal_tree.specs.Joined.{join}
+use Rattle.pascal_tree.specs.ExprTokens.{in_parens, expr_tokens, access_tokens, accesses_tokens}
+use Rattle.pascal_tree.specs.DeclTokens.{ident_tokens, constants_tokens, type_tokens, decl_tokens}
+use Rattle.pascal_print.specs.Events.{direction, program_tokens}
+use Rattle.listing_laws.proofs.Written.{some_of, word_is, sign_is, AreClasses, Writes, Written, own-spell, own-among, done, refused, choice, behind, last, single, word, sign, operators, identifier, number, items, some_items, list, ended, parens}
+use Rattle.listing_laws.proofs.ExprWritten.{comma_is, access-written, accesses-written, args-written, expr-written}
+use Rattle.listing_laws.proofs.DeclWritten.{semicolon_is, constants-written, type-written, labels-written, constdef-written, typedef-written, vardef-written, heading-written}
+use Rattle.listing_laws.proofs.EventTokens.{stmt_tokens, kind_tokens, arm_tokens, stmt-made, arm-made, empty-made, assign-made, call-made, goto-made, compound-made, repeat-made, while-made, if-made, if_else-made, case-made, for-made, with-made, ended_tokens, part_tokens, labels_tokens, block_tokens, routine_tokens, routine_ended, block-made, forward-made, routine-made, program-made}
+
+direction_classes : AreClasses (λ down. direction down ∷ []) directions
+direction_classes = (to_word, refl, word_is words.TO, (downto_word, refl, word_is words.DOWNTO, tt))
+
+-- ---- statements, where it holds of the expressions in them, and of statements one level further in, and E is an
+-- expression of the statement, and A one that is one level further in
+
+module _ {P : TokenKind → Type 0} {E A : Form Expr} {S : Form Stmt} {Q : Form (List Stmt)}
+    (here : Written P E expr_tokens) (further : Written P A expr_tokens) (inner : (level : ℕ) → Written P S (stmt_tokens level))
+    (sequence : (level : ℕ) → Written P Q (λ xs. join (semicolon_sign ∷ []) (map (stmt_tokens level) xs))) where
+  pub compound-written : (level : ℕ) → Writes P (λ z. Word words.BEGIN ∷ z) (compound_in E A S Q) (kind_tokens level)
+  compound-written level =
+      behind (list semicolon_is (inner (level + 1))) (λ body w. word words.END (done (compound-made level body)))
+
+  -- an `if` that ends with its first branch
+  if-ended : (level : ℕ) (c : Expr) (x : Stmt)
+      → Writes P (λ z. if_word ∷ (expr_tokens c ++ then_word ∷ (stmt_tokens (level + 1) x ++ z))) (just (s.If c x None) true) (kind_tokens level)
+  if-ended level c x =
+      done (if-made level c x ∙ ap (λ (ts : Toks). if_word ∷ (expr_tokens c ++ then_word ∷ ts)) (sym (append-nil (stmt_tokens (level + 1) x))))
+
+  else-written : (level : ℕ) (c : Expr) (x : Stmt) (w : Bool)
+      → Writes P (λ z. if_word ∷ (expr_tokens c ++ then_word ∷ (stmt_tokens (level + 1) x ++ z))) (else_form E A S Q c x w) (kind_tokens level)
+  else-written level c x true = if-ended level c x
+  else-written level c x false = choice (word words.ELSE (last (inner (level + 1)) (λ y w. if_else-made level c x y))) (if-ended level c x)
+
+  if-written : (level : ℕ) → Writes P (λ z. Word words.IF ∷ z) (if_in E A S Q) (kind_tokens level)
+  if-written level =
+      behind here (λ c w. word words.THEN (behind (inner (level + 1)) (λ x w. else-written level c x w)))
+
+  arm-written : (level : ℕ) → Written P (arm_form E A S Q) (arm_tokens level)
+  arm-written level =
+      behind constants-written (λ constants w. sign signs.COLON (last (inner (level + 1)) (λ body w. arm-made level constants body)))
+
+  case-written : (level : ℕ) → Writes P (λ z. Word words.CASE ∷ z) (case_in E A S Q) (kind_tokens level)
+  case-written level =
+      behind here (λ e w. word words.OF (behind (ended semicolon_is (arm-written level)) (λ arms w. word words.END (done (case-made level e arms)))))
+
+  while-written : (level : ℕ) → Writes P (λ z. Word words.WHILE ∷ z) (while_in E A S Q) (kind_tokens level)
+  while-written level = behind here (λ c w. word words.DO (last (inner (level + 1)) (λ body w. while-made level c body)))
+
+  repeat-written : (level : ℕ) → Writes P (λ z. Word words.REPEAT ∷ z) (repeat_in E A S Q) (kind_tokens level)
+  repeat-written level = behind (sequence (level + 1)) (λ body w. word words.UNTIL (last here (λ c w. repeat-made level body c)))
+
+  for-written : (level : ℕ) → Writes P (λ z. Word words.FOR ∷ z) (for_in E A S Q) (kind_tokens level)
+  for-written level =
+      behind identifier (λ x w. sign signs.BECOMES (behind here (λ first w.
+      behind (operators (λ down. direction down ∷ []) directions direction_classes) (λ down w. behind here (λ end w.
+      word words.DO (last (inner (level + 1)) (λ body w. for-made level x first down end body)))))))
+
+  with-written : (level : ℕ) → Writes P (λ z. Word words.WITH ∷ z) (with_in E A S Q) (kind_tokens level)
+  with-written level =
+      behind (accesses-written further) (λ records w.
+      word words.DO (last (inner (level + 1)) (λ body w. with-made level records body)))
+
+  kind-written : (level : ℕ) → Written P (kind_form E A S Q) (kind_tokens level)
+  kind-written level =
+      choice (word words.BEGIN (compound-written level))
+      (choice (word words.IF (if-written level))
+      (choice (word words.CASE (case-written level))
+      (choice (word words.WHILE (while-written level))
+      (choice (word words.REPEAT (repeat-written level))
+      (choice (word words.FOR (for-written level))
+      (choice (word words.WITH (with-written level))
+      (choice (word words.GOTO (last number (λ n w. goto-made level n)))
+      (choice (choice (behind (access-written further) (λ a w. sign signs.BECOMES (last here (λ e w. assign-made level a e))))
+      (behind identifier (λ x w. last (args-written further) (λ args w. call-made level x args))))
+      (done (empty-made level))))))))))
+
+  stmt-written_in : (level : ℕ) → Written P (stmt_form E A S Q) (stmt_tokens level)
+  stmt-written_in level =
+      choice (behind number (λ n w. sign signs.COLON (last (kind-written level) (λ k w. stmt-made level (Some n) k))))
+      (last (kind-written level) (λ k w. stmt-made level None k))
+
+module _ {P : TokenKind → Type 0} where
+  -- with any number of levels
+  pub stmt-written : (d level : ℕ) → Written P (stmt_at d) (stmt_tokens level)
+  unfolding stmt_at
+  stmt-written zero level = refused
+  stmt-written (suc d) level =
+      stmt-written_in (expr-written (suc d)) (expr-written d) (stmt-written d) (λ level. list semicolon_is (stmt-written d level)) level
