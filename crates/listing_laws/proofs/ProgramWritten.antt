@@ -1,5 +1,5 @@
 -- Statements, blocks and programs are spelled by their own tokens.
-use Rattle.std.specs.Prelude.{◌≡◌, ℕ, zero, suc, ◌+◌, Bool, true, false, cond, List, [], ◌∷◌, ◌++◌, Option, Some, None, map, codes, bytes_eq}
+use Rattle.std.specs.Prelude.{◌≡◌, ℕ, zero, suc, ◌+◌, ◌*◌, ◌-◌, Bool, true, false, cond, List, [], ◌∷◌, ◌++◌, Option, Some, None, map, codes, bytes_eq}
 use Rattle.std.proofs.Common.{refl, sym, ap, ◌∙◌, append-nil}
 use Rattle.std.specs.Cmp.Lexicographic.{same_text}
 use Rattle.std.specs.List.{AllByRecursion}
@@ -8,7 +8,7 @@ use Rattle.dice_base.specs.declared.token.TokenKind.TheVariants.{Word, Ident, Nu
 use Rattle.dice_base.specs.declared.symbols.words.TheConstants as words
 use Rattle.dice_base.specs.declared.symbols.signs.TheConstants as signs
 use Rattle.dice_base.specs.Tokens.{Toks}
-use Rattle.dice_base.specs.Forms.{Form, just, one}
+use Rattle.dice_base.specs.Forms.{Form, just, one, chain, token}
 use Rattle.dice_base.specs.Symbols.{const_word, downto_word, else_word, if_word, then_word, to_word, type_word, var_word, comma_sign, semicolon_sign}
 use Rattle.pascal_tree.specs.declared.levels.TheConstants.{LEVELS}
 use Rattle.pascal_tree.specs.declared.expr.Expr.{Expr}
@@ -112,3 +112,90 @@ module _ {P : TokenKind → Type 0} where
   stmt-written zero level = refused
   stmt-written (suc d) level =
       stmt-written_in (expr-written (suc d)) (expr-written d) (stmt-written d) (λ level. list semicolon_is (stmt-written d level)) level
+
+-- ---- the declarations of a block
+
+module _ {P : TokenKind → Type 0} where
+  ended-written : {K : Form DeclKind} → Written P K decl_tokens → Written P (ended_form K) ended_tokens
+  ended-written inner = behind inner (λ kind w. sign signs.SEMICOLON (done refl))
+
+  labels-part-written : Written P labels_part labels_tokens
+  labels-part-written = choice (word words.LABEL (last (ended-written labels-written) (λ d w. refl))) (done refl)
+
+  decls-part-written : {K : Form DeclKind} (k : ℕ) → Written P K decl_tokens → Written P (decls_part (6 * k) K) (part_tokens (Word k))
+  decls-part-written k inner = choice (word k (some_items (ended-written inner) (λ d ds. refl))) (done refl)
+
+  -- the directive is an identifier
+  forward-written : Written P (one forward_of) (λ x. Ident (codes "forward") ∷ [])
+  forward-written = single gives where
+    settled : (x : List ℕ) (y : Unit {0}) (b : Bool) → bytes_eq x (codes "forward") ≡ b → cond b (some_of tt) None ≡ some_of y → Ident (codes "forward") ∷ [] ≡ Ident x ∷ []
+    settled x y true is known = ap (λ (z : List ℕ). Ident z ∷ []) (sym (same_text x (codes "forward") (sym is)))
+    settled x y false is known = absurd cc
+
+    gives : (t : TokenKind) (y : Unit {0}) → forward_of t ≡ some_of y → Ident (codes "forward") ∷ [] ≡ t ∷ []
+    gives (Ident x) y e = settled x y (bytes_eq x (codes "forward")) refl e
+    gives (Word k) y e = absurd cc
+    gives (Number n) y e = absurd cc
+    gives (Str x) y e = absurd cc
+    gives (Sign k) y e = absurd cc
+    gives Hole y e = absurd cc
+
+-- ---- blocks and routines, where it holds of types, and of a routine and a body one level further in
+
+module _ {P : TokenKind → Type 0} {T : Form TypeText} {R : Form Routine} {B : Form StmtKind}
+    (types : Written P T type_tokens) (routine : (level : ℕ) → Written P R (routine_tokens level)) (body : (level : ℕ) → Written P B (kind_tokens level)) where
+  ended-routine : (level : ℕ) → Written P (chain R (λ r _. token semicolon_class (just r false))) (routine_ended level)
+  ended-routine level = behind (routine (level + 1)) (λ r w. sign signs.SEMICOLON (done refl))
+
+  block-written_in : (level : ℕ) → Written P (block_form T R B) (block_tokens level)
+  block-written_in level =
+      behind labels-part-written (λ ls w.
+      behind (decls-part-written words.CONST constdef-written) (λ cs w.
+      behind (decls-part-written words.TYPE (typedef-written types)) (λ ts w.
+      behind (decls-part-written words.VAR (vardef-written types)) (λ vs w.
+      behind (items (ended-routine level)) (λ rs w.
+      last (body (level + 1)) (λ k w. block-made level ls cs ts vs rs k))))))
+
+  routine-written_in : (level : ℕ) → Written P (routine_form T R B) (routine_tokens level)
+  routine-written_in level =
+      behind heading-written (λ h w. sign signs.SEMICOLON
+      (choice (last forward-written (λ x w. forward-made level h))
+      (last (block-written_in level) (λ b w. routine-made level h b))))
+
+module _ {P : TokenKind → Type 0} where
+  files-written : Written P files_form (λ files. in_parens comma_sign (map ident_tokens files))
+  files-written = parens comma_is identifier
+
+  program-written_in : {G : Form Block} → Written P G (block_tokens 0) → Written P (program_form G) program_tokens
+  program-written_in block =
+      word words.PROGRAM (behind identifier (λ x w. behind files-written (λ files w. sign signs.SEMICOLON
+      (behind block (λ b w. sign signs.PERIOD (done (program-made x files b)))))))
+
+  -- ---- with any number of levels
+
+  body-written : (d level : ℕ) → Written P (body_at d) (kind_tokens level)
+  unfolding body_at
+  body-written zero level = refused
+  body-written (suc d) level =
+      word words.BEGIN (compound-written (expr-written (suc d)) (expr-written d) (stmt-written d) (λ level. list semicolon_is (stmt-written d level)) level)
+
+  routine-written : (d level : ℕ) → Written P (routine_at d) (routine_tokens level)
+  unfolding routine_at
+  routine-written zero level = refused
+  routine-written (suc d) level = routine-written_in (type-written (suc d)) (routine-written d) (body-written d) level
+
+  block-written : (d level : ℕ) → Written P (block_at d) (block_tokens level)
+  unfolding block_at
+  block-written d level = block-written_in (type-written (suc d)) (routine-written d) (body-written d) level
+
+  pub program-written : (d : ℕ) → Written P (program_at d) program_tokens
+  unfolding program_at
+  program-written d = program-written_in (block-written d 0)
+
+-- a program that some tokens spell is spelled by its own tokens
+pub program-derives : (p : Tree) (ts : Toks) → Derives p ts → Derives p (program_tokens p)
+program-derives p ts h = own-spell (program-written {P = λ t. Unit {0}} (LEVELS - 1)) p false ts h
+
+-- and each of these is one of those
+pub program-among : (P : TokenKind → Type 0) (p : Tree) (ts : Toks) → Derives p ts → AllByRecursion P ts → AllByRecursion P (program_tokens p)
+program-among P p ts h = own-among (program-written {P = P} (LEVELS - 1)) p false ts h
