@@ -1,5 +1,5 @@
 -- What begins an expression and its parts, and what may follow them: tables of classes.
-use Rattle.std.specs.Prelude.{ℕ, Bool, [], ◌∷◌, ◌++◌}
+use Rattle.std.specs.Prelude.{Bool, [], ◌∷◌, ◌++◌}
 use Rattle.dice_base.specs.Tokens.{Classes, keys, end_of_tokens}
 use Rattle.pascal_tree.specs.Classes.{ident_class, number_class, string_class, do_class, downto_class, else_class, end_class, nil_class, not_class, of_class, then_class, to_class, until_class, plus_class, minus_class, open_class, close_class, left_class, right_class, becomes_class, comma_class, semicolon_class, colon_class, range_class}
 use Rattle.pascal_tree.specs.Expressions.{mul_ops, add_ops, rel_ops}

@@ -5,5 +5,6 @@
 #![tactic(auto)]
 
 mod exprs;
+mod operators;
 
 pub use exprs::{access, access_rest, args, expr, inner_expr};

@@ -3,6 +3,7 @@ pub mod Declarations
 pub mod Programs
 pub mod Statements
 pub mod Classes
+pub mod Depth
 pub mod Joined
 pub mod ExprTokens
 pub mod DeclTokens

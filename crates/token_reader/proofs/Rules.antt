@@ -135,6 +135,88 @@ in_right {A} {g} {h} k s = record {
   from_front = λ u x. (match_form x (λ y. inl y) (λ y. inr (s.from_front u y)));
 }
 
+match_sum : {X Y Z : Type 0} → (X ⊎ Y) ⊎ Z → X ⊎ (Y ⊎ Z)
+match_sum (inl (inl x)) = inl x
+match_sum (inl (inr y)) = inr (inl y)
+match_sum (inr z) = inr (inr z)
+
+match_sums : {X Y Z : Type 0} → X ⊎ (Y ⊎ Z) → (X ⊎ Y) ⊎ Z
+match_sums (inl x) = inl (inl x)
+match_sums (inr (inl y)) = inl (inr y)
+match_sums (inr (inr z)) = inr z
+
+-- the choices in the other order
+pub swap : {A : Type 0} (g h : Form A) → Same (either g h) (either h g)
+swap g h = record {
+  to = λ a w u x. (match_form x (λ y. inr y) (λ y. inl y));
+  from = λ a w u x. (match_form x (λ y. inr y) (λ y. inl y));
+  to_front = λ u x. (match_form x (λ y. inr y) (λ y. inl y));
+  from_front = λ u x. (match_form x (λ y. inr y) (λ y. inl y));
+}
+
+-- the first two choices as one, or the last two
+pub reassociate : {A : Type 0} (g h k : Form A) → Same (either (either g h) k) (either g (either h k))
+reassociate g h k = record {
+  to = λ a w u x. match_sum x;
+  from = λ a w u x. match_sums x;
+  to_front = λ u x. match_sum x;
+  from_front = λ u x. match_sums x;
+}
+
+-- a choice, and then the same behind each
+pub distribute : {A B : Type 0} (g h : Form A) (k : A → Bool → Form B) → Same (either (chain g k) (chain h k)) (chain (either g h) k)
+distribute {A} {B} g h k = record { to = to; from = from; to_front = to_front; from_front = from_front } where
+  to : (b : B) (v : Bool) (u : Toks) → (either (chain g k) (chain h k)).full b v u → (chain (either g h) k).full b v u
+  to b v u (inl (a, w, x, y, e, q, r)) = (a, w, x, y, e, inl q, r)
+  to b v u (inr (a, w, x, y, e, q, r)) = (a, w, x, y, e, inr q, r)
+
+  from : (b : B) (v : Bool) (u : Toks) → (chain (either g h) k).full b v u → (either (chain g k) (chain h k)).full b v u
+  from b v u (a, w, x, y, e, inl q, r) = inl (a, w, x, y, e, q, r)
+  from b v u (a, w, x, y, e, inr q, r) = inr (a, w, x, y, e, q, r)
+
+  to_front : (u : Toks) → (either (chain g k) (chain h k)).front u → (chain (either g h) k).front u
+  to_front u (inl (inl q)) = inl (inl q)
+  to_front u (inl (inr (a, w, x, y, e, q, r))) = inr (a, w, x, y, e, inl q, r)
+  to_front u (inr (inl q)) = inl (inr q)
+  to_front u (inr (inr (a, w, x, y, e, q, r))) = inr (a, w, x, y, e, inr q, r)
+
+  from_front : (u : Toks) → (chain (either g h) k).front u → (either (chain g k) (chain h k)).front u
+  from_front u (inl (inl q)) = inl (inl q)
+  from_front u (inl (inr q)) = inr (inl q)
+  from_front u (inr (a, w, x, y, e, inl q, r)) = inl (inr (a, w, x, y, e, q, r))
+  from_front u (inr (a, w, x, y, e, inr q, r)) = inr (inr (a, w, x, y, e, q, r))
+
+-- a part, of which a value is made at once
+module _ {A B V : Type 0} (g : Form A) (make : A → B) (K : B → Bool → Form V) (nil : (b : B) → (K b false).front []) where
+  abbrev Direct : Form V
+  Direct = chain g (λ a _. K (make a) false)
+
+  abbrev Made : Form V
+  Made = chain (chain g (λ a _. just (make a) false)) K
+
+  rejoined : (u z x y y2 : Toks) → u ≡ z ++ y2 → z ≡ x ++ y → y ≡ [] → u ≡ x ++ y2
+  rejoined u z x y y2 e e1 none = e ∙ ap (λ (t : Toks). t ++ y2) (e1 ∙ (ap (λ (t : Toks). x ++ t) none ∙ append-nil x))
+
+  direct_made : (v : V) (w : Bool) (u : Toks) → Direct.full v w u → Made.full v w u
+  direct_made v w u (a, wa, x, y, e, q, k) = (make a, false, x, y, e, (a, wa, x, [], sym (append-nil x), q, (refl, refl, refl)), k)
+
+  made_direct : (v : V) (w : Bool) (u : Toks) → Made.full v w u → Direct.full v w u
+  made_direct v w u (b, wb, z, y2, e, (a, wa, x, y, e1, q, (is, shut, none)), k) =
+      (a, wa, x, y2, rejoined u z x y y2 e e1 none, q, subst (λ (c : Bool). (K (make a) c).full v w y2) shut (subst (λ (c : B). (K c wb).full v w y2) is k))
+
+  direct_front : (u : Toks) → Direct.front u → Made.front u
+  direct_front u (inl q) = inl (inl q)
+  direct_front u (inr (a, wa, x, y, e, q, k)) = inr (make a, false, x, y, e, (a, wa, x, [], sym (append-nil x), q, (refl, refl, refl)), k)
+
+  made_front : (u : Toks) → Made.front u → Direct.front u
+  made_front u (inl (inl q)) = inl q
+  made_front u (inl (inr (a, wa, x, y, e, q, none))) = inr (a, wa, x, y, e, q, subst (λ (t : Toks). (K (make a) false).front t) (sym none) (nil (make a)))
+  made_front u (inr (b, wb, z, y2, e, (a, wa, x, y, e1, q, (is, shut, none)), k)) =
+      inr (a, wa, x, y2, rejoined u z x y y2 e e1 none, q, subst (λ (c : Bool). (K (make a) c).front y2) shut (subst (λ (c : B). (K c wb).front y2) is k))
+
+  pub made : Same Direct Made
+  made = record { to = direct_made; from = made_direct; to_front = direct_front; from_front = made_front }
+
 -- two steps that the grammar has as one part
 module _ {A B C V : Type 0} (g : Form A) (h : A → Bool → Form B) (make : A → B → C) (K : C → Form V) (nil : (c : C) → (K c).front []) where
   abbrev Flat : Form V
@@ -174,6 +256,31 @@ module _ {A B C V : Type 0} (g : Form A) (h : A → Bool → Form B) (make : A �
 
   pub regroup : Same Flat Whole
   regroup = record { to = flat_whole; from = whole_flat; to_front = flat_front; from_front = whole_front }
+
+-- three one after another, where the grammar has the first two as one part
+pub group : {A B V : Type 0} (g : Form A) (h : A → Bool → Form B) (k : B → Bool → Form V) → Same (chain g (λ a w. chain (h a w) k)) (chain (chain g h) k)
+group {A} {B} {V} g h k = record { to = to; from = from; to_front = to_front; from_front = from_front } where
+  left_text : (u x y y1 y2 : Toks) → u ≡ x ++ y → y ≡ y1 ++ y2 → u ≡ (x ++ y1) ++ y2
+  left_text u x y y1 y2 e e' = e ∙ (ap (λ (z : Toks). x ++ z) e' ∙ sym (append_assoc x y1 y2))
+
+  right_text : (u z y2 x y1 : Toks) → u ≡ z ++ y2 → z ≡ x ++ y1 → u ≡ x ++ (y1 ++ y2)
+  right_text u z y2 x y1 e e' = e ∙ (ap (λ (t : Toks). t ++ y2) e' ∙ append_assoc x y1 y2)
+
+  to : (b : V) (v : Bool) (u : Toks) → (chain g (λ a w. chain (h a w) k)).full b v u → (chain (chain g h) k).full b v u
+  to b v u (a, w, x, y, e, q, (c, w', y1, y2, e', q', r)) = (c, w', x ++ y1, y2, left_text u x y y1 y2 e e', (a, w, x, y1, refl, q, q'), r)
+
+  from : (b : V) (v : Bool) (u : Toks) → (chain (chain g h) k).full b v u → (chain g (λ a w. chain (h a w) k)).full b v u
+  from b v u (c, w', z, y2, e, (a, w, x, y1, e', q, q'), r) = (a, w, x, y1 ++ y2, right_text u z y2 x y1 e e', q, (c, w', y1, y2, refl, q', r))
+
+  to_front : (u : Toks) → (chain g (λ a w. chain (h a w) k)).front u → (chain (chain g h) k).front u
+  to_front u (inl q) = inl (inl q)
+  to_front u (inr (a, w, x, y, e, q, inl r)) = inl (inr (a, w, x, y, e, q, r))
+  to_front u (inr (a, w, x, y, e, q, inr (c, w', y1, y2, e', q', r))) = inr (c, w', x ++ y1, y2, left_text u x y y1 y2 e e', (a, w, x, y1, refl, q, q'), r)
+
+  from_front : (u : Toks) → (chain (chain g h) k).front u → (chain g (λ a w. chain (h a w) k)).front u
+  from_front u (inl (inl q)) = inl q
+  from_front u (inl (inr (a, w, x, y, e, q, r))) = inr (a, w, x, y, e, q, inl r)
+  from_front u (inr (c, w', z, y2, e, (a, w, x, y1, e', q, q'), r)) = inr (a, w, x, y1 ++ y2, right_text u z y2 x y1 e e', q, inr (c, w', y1, y2, refl, q', r))
 
 module _ {I : Type 0} {R : I → I → Type 0} where
   -- ---- nothing

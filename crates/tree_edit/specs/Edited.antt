@@ -12,7 +12,7 @@ use Rattle.program_tree.specs.Lookups.{name_of}
 use Rattle.program_tree.specs.Search.{path_of}
 use Rattle.tree_edit.specs.declared.fault.EditFault.{EditFault}
 use Rattle.tree_edit.specs.declared.fault.EditFault.TheVariants.{NoSuchName, WrongKind, TooDeep, NamesSpent, NoMemory}
-use Rattle.tree_edit.specs.Depth.{stmt_depth}
+use Rattle.pascal_tree.specs.Depth.{stmt_depth}
 use Rattle.tree_edit.specs.Place.{put_in_block, leads_to_body}
 
 -- ---- faults

@@ -1,6 +1,6 @@
 //! How many levels a tree takes.
 ghost use Rattle.std.specs.Prelude.{◌≡◌, ◌+◌, max, map, IfOk};
-ghost use Rattle.tree_edit.specs.Depth as spec;
+ghost use Rattle.pascal_tree.specs.Depth as spec;
 
 use dice_base::{NoMemory, one_more};
 use pascal_tree::{
@@ -8,7 +8,7 @@ use pascal_tree::{
 };
 
 #[cycle(expr_depth)]
-#[tactic(auto, unfolding(crate::specs::Depth::expr_depth, crate::specs::Depth::rel_part_depth, crate::specs::Depth::sum_depth))]
+#[tactic(auto, unfolding(pascal_tree::specs::Depth::expr_depth, pascal_tree::specs::Depth::rel_part_depth, pascal_tree::specs::Depth::sum_depth))]
 pub fn expr_depth(expr: &Expr) -> Result<u32, NoMemory>
     ensures { IfOk result (λ n. n ≡ spec.expr_depth expr.now) }
 {
@@ -23,7 +23,7 @@ pub fn expr_depth(expr: &Expr) -> Result<u32, NoMemory>
 }
 
 #[cycle(expr_depth)]
-#[tactic(auto, unfolding(crate::specs::Depth::sum_depth, crate::specs::Depth::add_part_depth, crate::specs::Depth::term_depth))]
+#[tactic(auto, unfolding(pascal_tree::specs::Depth::sum_depth, pascal_tree::specs::Depth::add_part_depth, pascal_tree::specs::Depth::term_depth))]
 fn sum_depth(sum: &SumExpr) -> Result<u32, NoMemory>
     ensures { IfOk result (λ n. n ≡ spec.sum_depth sum.now) }
 {
@@ -45,7 +45,7 @@ fn add_parts_depth(parts: &[AddPart]) -> Result<u32, NoMemory>
 }
 
 #[cycle(expr_depth)]
-#[tactic(auto, unfolding(crate::specs::Depth::add_part_depth, crate::specs::Depth::term_depth))]
+#[tactic(auto, unfolding(pascal_tree::specs::Depth::add_part_depth, pascal_tree::specs::Depth::term_depth))]
 fn add_part_depth(part: &AddPart) -> Result<u32, NoMemory>
     ensures { IfOk result (λ n. n ≡ spec.add_part_depth part.now) }
 {
@@ -53,7 +53,7 @@ fn add_part_depth(part: &AddPart) -> Result<u32, NoMemory>
 }
 
 #[cycle(expr_depth)]
-#[tactic(auto, unfolding(crate::specs::Depth::term_depth, crate::specs::Depth::mul_part_depth, crate::specs::Depth::factor_depth))]
+#[tactic(auto, unfolding(pascal_tree::specs::Depth::term_depth, pascal_tree::specs::Depth::mul_part_depth, pascal_tree::specs::Depth::factor_depth))]
 fn term_depth(term: &Term) -> Result<u32, NoMemory>
     ensures { IfOk result (λ n. n ≡ spec.term_depth term.now) }
 {
@@ -75,7 +75,7 @@ fn mul_parts_depth(parts: &[MulPart]) -> Result<u32, NoMemory>
 }
 
 #[cycle(expr_depth)]
-#[tactic(auto, unfolding(crate::specs::Depth::mul_part_depth, crate::specs::Depth::factor_depth))]
+#[tactic(auto, unfolding(pascal_tree::specs::Depth::mul_part_depth, pascal_tree::specs::Depth::factor_depth))]
 fn mul_part_depth(part: &MulPart) -> Result<u32, NoMemory>
     ensures { IfOk result (λ n. n ≡ spec.mul_part_depth part.now) }
 {
@@ -83,7 +83,7 @@ fn mul_part_depth(part: &MulPart) -> Result<u32, NoMemory>
 }
 
 #[cycle(expr_depth)]
-#[tactic(auto, unfolding(crate::specs::Depth::factor_depth, crate::specs::Depth::expr_depth, crate::specs::Depth::access_depth, crate::specs::Depth::arg_depth, crate::specs::Depth::member_depth))]
+#[tactic(auto, unfolding(pascal_tree::specs::Depth::factor_depth, pascal_tree::specs::Depth::expr_depth, pascal_tree::specs::Depth::access_depth, pascal_tree::specs::Depth::arg_depth, pascal_tree::specs::Depth::member_depth))]
 fn factor_depth(factor: &Factor) -> Result<u32, NoMemory>
     ensures { IfOk result (λ n. n ≡ spec.factor_depth factor.now) }
 {
@@ -124,7 +124,7 @@ fn members_depth(members: &[SetMember]) -> Result<u32, NoMemory>
 }
 
 #[cycle(expr_depth)]
-#[tactic(auto, unfolding(crate::specs::Depth::member_depth, crate::specs::Depth::expr_depth))]
+#[tactic(auto, unfolding(pascal_tree::specs::Depth::member_depth, pascal_tree::specs::Depth::expr_depth))]
 fn member_depth(member: &SetMember) -> Result<u32, NoMemory>
     ensures { IfOk result (λ n. n ≡ spec.member_depth member.now) }
 {
@@ -152,7 +152,7 @@ pub fn args_depth(args: &[Arg]) -> Result<u32, NoMemory>
 }
 
 #[cycle(expr_depth)]
-#[tactic(auto, unfolding(crate::specs::Depth::arg_depth, crate::specs::Depth::expr_depth))]
+#[tactic(auto, unfolding(pascal_tree::specs::Depth::arg_depth, pascal_tree::specs::Depth::expr_depth))]
 fn arg_depth(arg: &Arg) -> Result<u32, NoMemory>
     ensures { IfOk result (λ n. n ≡ spec.arg_depth arg.now) }
 {
@@ -167,7 +167,7 @@ fn arg_depth(arg: &Arg) -> Result<u32, NoMemory>
 }
 
 #[cycle(expr_depth)]
-#[tactic(auto, unfolding(crate::specs::Depth::access_depth, crate::specs::Depth::access_part_depth))]
+#[tactic(auto, unfolding(pascal_tree::specs::Depth::access_depth, pascal_tree::specs::Depth::access_part_depth))]
 pub fn access_depth(access: &Access) -> Result<u32, NoMemory>
     ensures { IfOk result (λ n. n ≡ spec.access_depth access.now) }
 {
@@ -188,7 +188,7 @@ fn access_parts_depth(parts: &[AccessPart]) -> Result<u32, NoMemory>
 }
 
 #[cycle(expr_depth)]
-#[tactic(auto, unfolding(crate::specs::Depth::access_part_depth, crate::specs::Depth::expr_depth))]
+#[tactic(auto, unfolding(pascal_tree::specs::Depth::access_part_depth, pascal_tree::specs::Depth::expr_depth))]
 fn access_part_depth(part: &AccessPart) -> Result<u32, NoMemory>
     ensures { IfOk result (λ n. n ≡ spec.access_part_depth part.now) }
 {

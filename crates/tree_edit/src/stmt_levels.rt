@@ -1,6 +1,6 @@
 //! How many levels a statement takes.
 ghost use Rattle.std.specs.Prelude.{◌≡◌, ◌+◌, max, map, IfOk};
-ghost use Rattle.tree_edit.specs.Depth as spec;
+ghost use Rattle.pascal_tree.specs.Depth as spec;
 
 use crate::depth::{access_depth, args_depth, expr_depth};
 use dice_base::{NoMemory, one_more};

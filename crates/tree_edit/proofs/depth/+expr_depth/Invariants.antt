@@ -1,5 +1,5 @@
 use Rattle.std.proofs.Common.{◌≡◌, drop, max, map}
-use Rattle.tree_edit.specs.Depth.{most, add_part_depth, mul_part_depth, member_depth, arg_depth, access_part_depth, expr_depth}
+use Rattle.pascal_tree.specs.Depth.{most, add_part_depth, mul_part_depth, member_depth, arg_depth, access_part_depth, expr_depth}
 use Rattle.tree_edit.proofs.depth.+expr_depth.Given as goal
 
 abbrev pub invariant-add_parts_depth-loop-part : goal.invariant-add_parts_depth-loop-part

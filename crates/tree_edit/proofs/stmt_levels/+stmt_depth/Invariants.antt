@@ -1,5 +1,5 @@
 use Rattle.std.proofs.Common.{◌≡◌, drop, max, map}
-use Rattle.tree_edit.specs.Depth.{most, stmt_depth, arm_depth}
+use Rattle.pascal_tree.specs.Depth.{most, stmt_depth, arm_depth}
 use Rattle.tree_edit.proofs.stmt_levels.+stmt_depth.Given as goal
 
 abbrev pub invariant-stmts_depth-loop-stmt : goal.invariant-stmts_depth-loop-stmt

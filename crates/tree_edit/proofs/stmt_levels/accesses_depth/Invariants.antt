@@ -1,5 +1,5 @@
 use Rattle.std.proofs.Common.{◌≡◌, drop, max, map}
-use Rattle.tree_edit.specs.Depth.{most, access_depth}
+use Rattle.pascal_tree.specs.Depth.{most, access_depth}
 use Rattle.tree_edit.proofs.stmt_levels.accesses_depth.Given as goal
 
 abbrev pub invariant-loop-access : goal.invariant-loop-access

@@ -1,0 +1,2 @@
+//! Reads blocks, procedures and functions, and programs from the tokens that are left.
+#![tactic(auto)]

@@ -1,0 +1,2 @@
+pub mod DeclLevels
+pub mod DeclRules
