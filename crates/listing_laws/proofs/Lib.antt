@@ -1,6 +1,7 @@
-pub mod Written
-pub mod ExprTrees
-pub mod ExprWritten
-pub mod DeclWritten
 pub mod EventTokens
+mod Examples
+pub mod Gaps
+pub mod Layouts
 pub mod ProgramWritten
+pub mod Spellings
+pub mod Unnamed

@@ -17,8 +17,8 @@ use Rattle.pascal_tree.specs.Classes.{comma_class}
 use Rattle.pascal_tree.specs.Joined.{optional_part, optional_part_after}
 use Rattle.pascal_tree.specs.Expressions.{mul_ops, add_ops, rel_ops, signs, part_form, access_form, width_form, arg_form, args_in, args_form, last_form, member_form, members_in, factor_form, sign_form, mul_form, term_form, add_form, sum_form, rel_form, expr_form, expr_at, factor_at}
 use Rattle.pascal_tree.specs.ExprTokens.{prefix_tokens, mul_token, add_token, rel_token, comma_list, expr_tokens, relation_tokens, sum_tokens, adding_tokens, term_tokens, multiplying_tokens, factor_tokens, member_tokens, arg_tokens, args_tokens, access_tokens, accesses_tokens, part_tokens}
-use Rattle.listing_laws.proofs.Written.{IsClassOf, word_is, sign_is, AreClasses, Writes, Written, done, refused, choice, behind, last, last_known, word, sign, operators, identifier, number, string, items, list, parens, in-parens}
-use Rattle.listing_laws.proofs.ExprTrees.{expr-made, rel-made, sum-made, add-made, term-made, mul-made, number-made, string-made, nil-made, variable-made, call-made, members-made, paren-made, not-made, member-made, arg-made, access-made, index-made, field-made, deref-made}
+use Rattle.own_tokens.proofs.Written.{IsClassOf, word_is, sign_is, AreClasses, Writes, Written, done, refused, choice, behind, last, last_known, word, sign, operators, identifier, number, string, items, list, parens, in-parens}
+use Rattle.own_tokens.proofs.ExprTrees.{expr-made, rel-made, sum-made, add-made, term-made, mul-made, number-made, string-made, nil-made, variable-made, call-made, members-made, paren-made, not-made, member-made, arg-made, access-made, index-made, field-made, deref-made}
 
 -- ---- the tokens of operators
 

@@ -20,8 +20,8 @@ use Rattle.pascal_tree.specs.Expressions.{signs}
 use Rattle.pascal_tree.specs.Declarations.{make_field, constant_form, idents_form, simple_form, field_form, record_in, array_in, set_in, struct_form, type_form, simple_at, type_at, labels_form, constdef_form, typedef_form, vardef_form, section_in, section_form, params_form, procedure_in, function_in, heading_form}
 use Rattle.pascal_tree.specs.ExprTokens.{prefix_tokens, comma_list, in_parens}
 use Rattle.pascal_tree.specs.DeclTokens.{constant_tokens, constants_tokens, idents_tokens, packed_tokens, in_type, in_field, type_tokens, field_tokens, decl_tokens, var_tokens, section_tokens, heading_tokens}
-use Rattle.listing_laws.proofs.Written.{IsClassOf, sign_is, Writes, Written, done, refused, choice, behind, last, word, sign, operators, identifier, number, string, list, ended, parens}
-use Rattle.listing_laws.proofs.ExprWritten.{sign_classes, comma_is}
+use Rattle.own_tokens.proofs.Written.{IsClassOf, sign_is, Writes, Written, done, refused, choice, behind, last, word, sign, operators, identifier, number, string, list, ended, parens}
+use Rattle.own_tokens.proofs.ExprWritten.{sign_classes, comma_is}
 
 -- ---- the tokens of a type, by those of its parts
 

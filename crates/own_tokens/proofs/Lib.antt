@@ -1,0 +1,4 @@
+pub mod Written
+pub mod ExprTrees
+pub mod ExprWritten
+pub mod DeclWritten
