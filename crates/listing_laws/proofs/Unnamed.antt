@@ -26,7 +26,7 @@ use Rattle.pascal_print.specs.Events as events
 use Rattle.pascal_print.specs.Events.{Laid, tokens_of, said, label_tokens, tested, range, child, more, sequence, ended, else_part, labels, declaration, part, decl_events, block_or_forward, stmt_events, kind_events, arm_events, block_events, routine_events, program_tokens}
 use Rattle.pascal_tree.specs.Unnamed as without
 use Rattle.pascal_tree.specs.Unnamed.{unnamed_stmt, unnamed_kind, unnamed_arm, unnamed_decl, unnamed_block, unnamed_routine, unnamed_program}
-use Rattle.listing_laws.proofs.EventTokens.{tokens-append, tokens-child}
+use Rattle.own_tokens.proofs.EventTokens.{tokens-append, tokens-child}
 
 -- ---- events whose tokens are the same
 

@@ -1,4 +1,6 @@
-pub mod Written
+pub mod DeclWritten
+pub mod EventTokens
 pub mod ExprTrees
 pub mod ExprWritten
-pub mod DeclWritten
+pub mod ProgramWritten
+pub mod Written

@@ -31,7 +31,7 @@ use Rattle.pascal_print.specs.Events.{direction, program_tokens}
 use Rattle.own_tokens.proofs.Written.{some_of, word_is, sign_is, AreClasses, Writes, Written, own-spell, own-among, done, refused, choice, behind, last, single, word, sign, operators, identifier, number, items, some_items, list, ended, parens}
 use Rattle.own_tokens.proofs.ExprWritten.{comma_is, access-written, accesses-written, args-written, expr-written}
 use Rattle.own_tokens.proofs.DeclWritten.{semicolon_is, constants-written, type-written, labels-written, constdef-written, typedef-written, vardef-written, heading-written}
-use Rattle.listing_laws.proofs.EventTokens.{stmt_tokens, kind_tokens, arm_tokens, stmt-made, arm-made, empty-made, assign-made, call-made, goto-made, compound-made, repeat-made, while-made, if-made, if_else-made, case-made, for-made, with-made, ended_tokens, part_tokens, labels_tokens, block_tokens, routine_tokens, routine_ended, block-made, forward-made, routine-made, program-made}
+use Rattle.own_tokens.proofs.EventTokens.{stmt_tokens, kind_tokens, arm_tokens, stmt-made, arm-made, empty-made, assign-made, call-made, goto-made, compound-made, repeat-made, while-made, if-made, if_else-made, case-made, for-made, with-made, ended_tokens, part_tokens, labels_tokens, block_tokens, routine_tokens, routine_ended, block-made, forward-made, routine-made, program-made}
 
 direction_classes : AreClasses (λ down. direction down ∷ []) directions
 direction_classes = (to_word, refl, word_is words.TO, (downto_word, refl, word_is words.DOWNTO, tt))
