@@ -1,5 +1,6 @@
 mod Examples
 pub mod Gaps
 pub mod Layouts
+pub mod ReadsBack
 pub mod Spellings
 pub mod Unnamed
