@@ -1,5 +1,5 @@
 -- The rules of blocks, routines and programs: all laws of each.
-use Rattle.std.specs.Prelude.{◌≡◌, ℕ, Bool, true, false, ◌&&◌, List, [], ◌∷◌, ◌++◌, Option, Some, None}
+use Rattle.std.specs.Prelude.{◌≡◌, ℕ, true, false, ◌&&◌, [], ◌∷◌, Some, None}
 use Rattle.std.proofs.Common.{refl}
 use Rattle.dice_base.specs.declared.token.TokenKind.{TokenKind}
 use Rattle.dice_base.specs.declared.token.TokenKind.TheVariants.{Word, Ident, Number, Str, Sign, Hole}
@@ -7,7 +7,6 @@ use Rattle.dice_base.specs.Tokens.{Classes, end_of_tokens, class_of, is_in}
 use Rattle.dice_base.specs.Forms.{Form}
 use Rattle.pascal_tree.specs.declared.typing.TypeText.{TypeText}
 use Rattle.pascal_tree.specs.declared.decl.DeclKind.{DeclKind}
-use Rattle.pascal_tree.specs.declared.decl.Heading.{Heading}
 use Rattle.pascal_tree.specs.declared.decl.Block.{Block}
 use Rattle.pascal_tree.specs.declared.decl.Routine.{Routine}
 use Rattle.pascal_tree.specs.declared.stmt.StmtKind.{StmtKind}
@@ -15,11 +14,11 @@ use Rattle.pascal_tree.specs.Classes.{ident_class, begin_class, const_class, lab
 use Rattle.pascal_tree.specs.Declarations.{make_decl}
 use Rattle.pascal_tree.specs.Programs as form
 use Rattle.pascal_tree.specs.Programs.{forward_of, make_block, make_routine, make_program}
-use Rattle.token_reader.specs.Readers.{Parser, ◌>>=◌, ◌>>◌, pure}
+use Rattle.token_reader.specs.Readers.{Parser}
 use Rattle.token_reader.specs.Tables.{within, clear}
 use Rattle.token_reader.proofs.Rules.{Rule, Nothing, fits, give, seq, tok, choose, single, narrow, ident_rule}
 use Rattle.token_reader.proofs.Loops.{many_rule, some_rule}
-use Rattle.declaration_parser.specs.Follows.{Any, type_ends, type_first, decl_ends, heading_first}
+use Rattle.declaration_parser.specs.Follows.{Any, type_ends, type_first, decl_ends}
 use Rattle.declaration_parser.proofs.DeclRules.{labels_rule, constdef_rule, typedef_rule, vardef_rule, heading_rule, idents_rule}
 use Rattle.block_parser.specs.Readers as read
 use Rattle.block_parser.specs.Readers.{routine_first}

@@ -1,5 +1,5 @@
 -- The reader of a routine, by that of the level further in; and the directive `forward`.
-use Rattle.std.specs.Prelude.{◌≡◌, ℕ, Bool, true, false, List, [], ◌∷◌, Some, None, Ok, Err, drop}
+use Rattle.std.specs.Prelude.{◌≡◌, ℕ, true, false, List, [], ◌∷◌, Ok, Err, drop}
 use Rattle.std.proofs.Common.{◌-◌, ◌<◌, ap, refl}
 use Rattle.dice_base.specs.declared.token.TokenKind.TheVariants.{Word, Ident, Number, Str, Sign, Hole}
 use Rattle.dice_base.specs.Tokens.{Toks}
