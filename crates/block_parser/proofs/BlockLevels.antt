@@ -30,32 +30,44 @@ module _ (body : ℕ → Parser StmtKind)
     -- ---- one level
 
     abbrev pub RoutineLaws : ℕ → Type 0
-    RoutineLaws d = One [] routine_first (routine_in body d) (routine_at d) Nothing (Any routine_ends) × Local (routine_in body d)
+    RoutineLaws d =
+        One [] routine_first (routine_in body d) (routine_at d) Nothing (Any routine_ends)
+        × Local (routine_in body d)
 
     abbrev pub ProgramLaws : ℕ → Type 0
-    ProgramLaws d = One [] (program_class ∷ []) (program_in body d) (program_at d) Nothing (Any (end_of_tokens ∷ [])) × Local (program_in body d)
+    ProgramLaws d =
+        One [] (program_class ∷ []) (program_in body d) (program_at d) Nothing (Any (end_of_tokens ∷ []))
+        × Local (program_in body d)
 
-    abbrev routine_next : (d : ℕ) → RoutineLaws d → Rule Alone true [] routine_first (λ i. routine_in body (suc d)) (λ i. routine_at (suc d)) Nothing (Any routine_ends)
+    abbrev routine_next : (d : ℕ) → RoutineLaws d
+        → Rule Alone true [] routine_first (λ i. routine_in body (suc d)) (λ i. routine_at (suc d)) Nothing
+        (Any routine_ends)
     unfolding routine_in routine_at
     routine_next d r =
-        routine_rule (λ i. type_in (suc d)) (λ i. routine_in body d) (λ i. body d) (λ i. type_at (suc d)) (λ i. routine_at d) (λ i. body_at d)
-        (alone_rule (type_laws (suc d)).0 (type_laws (suc d)).1) (alone_rule r.0 r.1) (alone_rule (body_laws d).0 (body_laws d).1)
+        routine_rule (λ i. type_in (suc d)) (λ i. routine_in body d) (λ i. body d) (λ i. type_at (suc d))
+        (λ i. routine_at d) (λ i. body_at d)
+        (alone_rule (type_laws (suc d)).0 (type_laws (suc d)).1) (alone_rule r.0 r.1)
+        (alone_rule (body_laws d).0 (body_laws d).1)
 
     pub routine_laws : (d : ℕ) → RoutineLaws d
     unfolding routine_in routine_at
     routine_laws zero = (stop_one Deep [] routine_first Nothing (Any routine_ends), stop_local Deep)
     routine_laws (suc d) = let r = routine_next d (routine_laws d) in (r.laws tt, r.local tt)
 
-    block_rule_at : (d : ℕ) → Rule Alone false [] block_first (λ i. block_in body d) (λ i. block_at d) Nothing (Any block_ends)
+    block_rule_at : (d : ℕ)
+        → Rule Alone false [] block_first (λ i. block_in body d) (λ i. block_at d) Nothing (Any block_ends)
     unfolding block_in block_at
     block_rule_at d =
-        block_rule (λ i. type_in (suc d)) (λ i. routine_in body d) (λ i. body d) (λ i. type_at (suc d)) (λ i. routine_at d) (λ i. body_at d)
-        (alone_rule (type_laws (suc d)).0 (type_laws (suc d)).1) (alone_rule (routine_laws d).0 (routine_laws d).1) (alone_rule (body_laws d).0 (body_laws d).1)
+        block_rule (λ i. type_in (suc d)) (λ i. routine_in body d) (λ i. body d) (λ i. type_at (suc d))
+        (λ i. routine_at d) (λ i. body_at d)
+        (alone_rule (type_laws (suc d)).0 (type_laws (suc d)).1)
+        (alone_rule (routine_laws d).0 (routine_laws d).1) (alone_rule (body_laws d).0 (body_laws d).1)
 
     pub program_laws : (d : ℕ) → ProgramLaws d
     unfolding program_in program_at
     program_laws d =
-        let r : Rule Alone true [] (program_class ∷ []) (λ i. program_in body d) (λ i. program_at d) Nothing (Any (end_of_tokens ∷ [])) =
+        let r : Rule Alone true [] (program_class ∷ []) (λ i. program_in body d) (λ i. program_at d) Nothing
+        (Any (end_of_tokens ∷ [])) =
         program_rule (λ i. block_in body d) (λ i. block_at d) (block_rule_at d) in
         (r.laws tt, r.local tt)
 
@@ -82,10 +94,15 @@ module _ (body : ℕ → Parser StmtKind)
     routine_forms d true = routine_at (suc d)
 
     body_pair : (d : ℕ) → Rule Pair false [] (begin_class ∷ []) (bodies d) (body_forms d) Nothing (Any block_ends)
-    body_pair d = pair_rule (bodies d) (body_forms d) (body_laws d).0 (body_laws d).1 (body_laws (suc d)).0 (body_laws (suc d)).1 (body_slow d) (body_steady d)
+    body_pair d =
+        pair_rule (bodies d) (body_forms d) (body_laws d).0 (body_laws d).1 (body_laws (suc d)).0
+        (body_laws (suc d)).1 (body_slow d) (body_steady d)
 
-    routine_pair : (d : ℕ) → Steady (routine_in body d) (routine_in body (suc d)) → Rule Pair false [] routine_first (routines d) (routine_forms d) Nothing (Any routine_ends)
-    routine_pair d s = pair_rule (routines d) (routine_forms d) (routine_laws d).0 (routine_laws d).1 (routine_laws (suc d)).0 (routine_laws (suc d)).1 (routine_slow d) s
+    routine_pair : (d : ℕ) → Steady (routine_in body d) (routine_in body (suc d))
+        → Rule Pair false [] routine_first (routines d) (routine_forms d) Nothing (Any routine_ends)
+    routine_pair d s =
+        pair_rule (routines d) (routine_forms d) (routine_laws d).0 (routine_laws d).1
+        (routine_laws (suc d)).0 (routine_laws (suc d)).1 (routine_slow d) s
 
     pub routine_steady : (d : ℕ) → Steady (routine_in body d) (routine_in body (suc d))
     unfolding routine_in
@@ -100,7 +117,7 @@ module _ (body : ℕ → Parser StmtKind)
     abbrev block_forms : ℕ → Bool → Form Block
     block_forms d i = block_form (type_forms (suc d) i) (routine_forms d i) (body_forms d i)
 
-    -- no reader that has no level at all is compared: a block of none is as deep as its routines and its body
+    -- a block takes no level: it is too deep where its routines and its body are, and steady as they are
     block_pair : (d : ℕ) → Rule Pair false [] block_first (block_readers d) (block_forms d) Nothing (Any block_ends)
     block_pair d =
         block_rule (types (suc d)) (routines d) (bodies d) (type_forms (suc d)) (routine_forms d) (body_forms d)

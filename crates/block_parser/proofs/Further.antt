@@ -1,5 +1,5 @@
 -- The reader of a routine, by that of the level further in; and the directive `forward`.
-use Rattle.std.specs.Prelude.{◌≡◌, ℕ, Bool, true, false, List, [], ◌∷◌, Some, None, Ok, Err, drop}
+use Rattle.std.specs.Prelude.{◌≡◌, ℕ, true, false, List, [], ◌∷◌, Ok, Err, drop}
 use Rattle.std.proofs.Common.{◌-◌, ◌<◌, ap, refl}
 use Rattle.dice_base.specs.declared.token.TokenKind.TheVariants.{Word, Ident, Number, Str, Sign, Hole}
 use Rattle.dice_base.specs.Tokens.{Toks}
@@ -14,7 +14,8 @@ pub routine_none : (body : ℕ → Parser StmtKind) (d : ℕ) (ts : Toks) → d 
 unfolding routine_in
 routine_none body d ts e = ap (λ n. routine_in body n ts) e
 
-pub routine_some : (body : ℕ → Parser StmtKind) (d : ℕ) (ts : Toks) → 0 < d → routine_in body d ts ≡ whole_routine (block_in body (d - 1)) ts
+pub routine_some : (body : ℕ → Parser StmtKind) (d : ℕ) (ts : Toks) → 0 < d
+    → routine_in body d ts ≡ whole_routine (block_in body (d - 1)) ts
 unfolding routine_in block_in
 routine_some body d ts some = deeper (λ n. routine_in body n ts) d some
 

@@ -85,7 +85,8 @@ fn routines<B: ReadsBodies>(
     tokens: &mut Cursor<'_>,
     depth: usize,
 ) -> Result<Items<Routine>, Stop>
-    ensures { Reads (many spec.routine_first (spec.ended_routine (spec.routine_in B.body_in depth)) [] tokens.old) result tokens.new }
+    ensures { Reads (many spec.routine_first (spec.ended_routine (spec.routine_in B.body_in depth))
+        [] tokens.old) result tokens.new }
 {
     let mut found = Items::new(alloc);
     for _turn in 0..tokens.len() {

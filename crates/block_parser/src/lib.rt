@@ -1,7 +1,8 @@
 //! Reads blocks, procedures and functions, and programs from the tokens that are left.
 //!
-//! What reads the bodies of blocks is a parameter, so nothing here knows statements. Each function answers what the
-//! reading function of its name answers (`Readers` in specs/), and leaves the tokens that it leaves.
+//! What reads the bodies of blocks is a parameter (`ReadsBodies`), so nothing here knows statements. Each function
+//! answers what the reading function that its contract names answers (`Readers` in specs/), and leaves the tokens that it
+//! leaves. The laws in `proofs/` say that these readers read what the grammar spells, if the reader of bodies does.
 #![tactic(auto)]
 
 mod blocks;

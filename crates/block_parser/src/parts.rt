@@ -13,7 +13,8 @@ use std::alloc::Global;
 use token_reader::classes::{CONST, IDENT, LABEL, SEMICOLON, TYPE, VAR};
 use token_reader::{Cursor, Stop};
 
-/// The labels with their word and semicolon, if there are any. They are boxed since they wait for the rest of the block.
+/// The labels with their word and semicolon, if there are any. They are boxed, since they wait for the rest of the
+/// block.
 #[tactic(auto, unfolding(crate::specs::Readers::labels_part, crate::specs::Readers::ended_decl))]
 pub fn labels_part(alloc: Global, tokens: &mut Cursor<'_>) -> Result<Option<Boxed<Decl>>, Stop>
     ensures { Reads (spec.labels_part tokens.old) result tokens.new }

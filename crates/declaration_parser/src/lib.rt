@@ -1,7 +1,7 @@
 //! Reads constants, types, declarations and headings from the tokens that are left.
 //!
-//! Each function answers what the reading function of its name answers (`Readers` in specs/), and leaves the tokens that
-//! it leaves.
+//! Each function answers what the reading function that its contract names answers (`Readers` in specs/), and leaves the
+//! tokens that it leaves. The laws in `proofs/` say that these readers read what the grammar spells.
 #![tactic(auto)]
 
 mod consts;

@@ -128,7 +128,8 @@ impl<F: Fn(Global, &mut Cursor<'_>, usize) -> Result<TypeText, Stop>> Types<F> {
         packed: bool,
     ) -> Result<TypeText, Stop>
         requires { NestsTypes depth (F.pre self.now.inner) (F.post self.now.inner) }
-        ensures { Reads (spec.array_rest (spec.simple_in depth) (spec.type_in depth) packed tokens.old) result tokens.new }
+        ensures { Reads (spec.array_rest (spec.simple_in depth) (spec.type_in depth)
+            packed tokens.old) result tokens.new }
     {
         tokens.expect(LEFT)?;
         let indexes = indexes(self.alloc, tokens, depth)?;
@@ -152,7 +153,8 @@ impl<F: Fn(Global, &mut Cursor<'_>, usize) -> Result<TypeText, Stop>> Types<F> {
     #[tactic(auto, using(token_reader::proofs::Turns::ended_step, token_reader::proofs::Turns::ended_stop))]
     fn fields(&self, tokens: &mut Cursor<'_>, depth: usize) -> Result<Items<FieldText>, Stop>
         requires { NestsTypes depth (F.pre self.now.inner) (F.post self.now.inner) }
-        ensures { Reads (ended semicolon_class (ident_class ∷ []) (spec.field (spec.simple_in depth) (spec.type_in depth)) tokens.old) result tokens.new }
+        ensures { Reads (ended semicolon_class (ident_class ∷ [])
+            (spec.field (spec.simple_in depth) (spec.type_in depth)) tokens.old) result tokens.new }
     {
         let mut found = Items::new(self.alloc);
         found.push(self.field(tokens, depth)?)?;
@@ -180,7 +182,8 @@ impl<F: Fn(Global, &mut Cursor<'_>, usize) -> Result<TypeText, Stop>> Types<F> {
         packed: bool,
     ) -> Result<TypeText, Stop>
         requires { NestsTypes depth (F.pre self.now.inner) (F.post self.now.inner) }
-        ensures { Reads (spec.record_rest (spec.simple_in depth) (spec.type_in depth) packed tokens.old) result tokens.new }
+        ensures { Reads (spec.record_rest (spec.simple_in depth) (spec.type_in depth)
+            packed tokens.old) result tokens.new }
     {
         match tokens.class() {
             END => {
@@ -203,7 +206,8 @@ impl<F: Fn(Global, &mut Cursor<'_>, usize) -> Result<TypeText, Stop>> Types<F> {
         packed: bool,
     ) -> Result<TypeText, Stop>
         requires { NestsTypes depth (F.pre self.now.inner) (F.post self.now.inner) }
-        ensures { Reads (spec.structured (spec.simple_in depth) (spec.type_in depth) packed tokens.old) result tokens.new }
+        ensures { Reads (spec.structured (spec.simple_in depth) (spec.type_in depth)
+            packed tokens.old) result tokens.new }
     {
         match tokens.class() {
             ARRAY => {

@@ -4,8 +4,8 @@ use Rattle.std.proofs.Common.{ap, sym, ◌∙◌}
 use Rattle.pascal_tree.specs.declared.stmt.Stmt.{roll-Stmt}
 use Rattle.pascal_tree.specs.declared.stmt.StmtKind.{StmtKind, StmtKind-F}
 use Rattle.pascal_tree.specs.declared.stmt.StmtKind.TheVariants.{Empty, rolls-Empty}
-use Rattle.pascal_tree.specs.Statements.{no_name}
-use Rattle.listing_laws.specs.Unnamed.{unnamed_stmt, unnamed_kind}
+use Rattle.pascal_tree.specs.Declarations.{no_name}
+use Rattle.pascal_tree.specs.Unnamed.{unnamed_stmt, unnamed_kind}
 use Rattle.listing_laws.proofs.Unnamed.{kind-without, stmt-without}
 
 empty-unnamed : unnamed_kind Empty ≡ Empty

@@ -144,12 +144,7 @@ digits_lexeme [] n some each is low = absurd (omega (arith, some))
 digits_lexeme (c ∷ cs) n some each is low =
     subst (λ m. Lexeme (c ∷ cs) (Number m)) is (number c cs (digit_class (class c) each.0) each.1 (rw is low))
 
--- ---- strings and alternative tokens
-
--- a listing writes an apostrophe as the definition of tokens does
-doubled-same : (cs : List ℕ) → spelling.doubled_apostrophes cs ≡ doubled_apostrophes cs
-doubled-same [] = refl
-doubled-same (c ∷ cs) = rw (doubled-same cs) refl
+-- ---- alternative tokens
 
 -- the sign that an alternative token is has a spelling of its own
 alternative-spelt : (w : List ℕ) (k : ℕ) → alternative_of w ≡ some k → sign_of (spelling.sign_spelling k) ≡ some k
@@ -173,7 +168,7 @@ lexeme-spelt w t (number c cs is each low) =
     let small : value_of (c ∷ cs) < 2 ^ 64 = omega (arith, low) in
     digits_lexeme (decimal (value_of (c ∷ cs))) (value_of (c ∷ cs)) (decimal_nonempty (value_of (c ∷ cs)) small) (digits_decimal numerals (value_of (c ∷ cs)) small) (digits_value-decimal numerals (value_of (c ∷ cs)) small) low
 lexeme-spelt w t (sign v k e) = subst (λ (u : List ℕ). Lexeme u (Sign k)) (sym (sign-spelling v k e)) (sign v k e)
-lexeme-spelt w t (string cs more each) = rw (doubled-same cs) (string cs more each)
+lexeme-spelt w t (string cs more each) = string cs more each
 lexeme-spelt w t (alternative v k e) = sign (spelling.sign_spelling k) k (alternative-spelt v k e)
 lexeme-spelt w t hole = hole
 

@@ -16,7 +16,7 @@ use Rattle.pascal_tree.specs.declared.decl.Routine.{Routine, Routine-F, roll-Rou
 use Rattle.pascal_tree.specs.declared.decl.Block.TheFolds.{fold-roll-Block, fold-roll-Routine, ind-Block}
 use Rattle.pascal_tree.specs.declared.program.Tree.{Tree}
 use Rattle.dice_base.specs.Tokens.{Toks}
-use Rattle.pascal_tree.specs.Statements.{no_name}
+use Rattle.pascal_tree.specs.Declarations.{no_name}
 use Rattle.dice_base.specs.Symbols.{end_word, of_word, var_word, semicolon_sign, colon_sign, period_sign, begin_word, case_word, const_word, do_word, else_word, goto_word, if_word, label_word, repeat_word, then_word, type_word, until_word, while_word, with_word, becomes_sign}
 use Rattle.pascal_tree.specs.ExprTokens.{expr_tokens, access_tokens, accesses_tokens, args_tokens}
 use Rattle.pascal_tree.specs.DeclTokens.{constants_tokens, heading_tokens}
@@ -24,9 +24,9 @@ use Rattle.pascal_print.specs.declared.event.Event.{Event}
 use Rattle.pascal_print.specs.declared.event.Event.TheVariants.{Token}
 use Rattle.pascal_print.specs.Events as events
 use Rattle.pascal_print.specs.Events.{Laid, tokens_of, said, label_tokens, tested, range, child, more, sequence, ended, else_part, labels, declaration, part, decl_events, block_or_forward, stmt_events, kind_events, arm_events, block_events, routine_events, program_tokens}
-use Rattle.listing_laws.specs.Unnamed as without
-use Rattle.listing_laws.specs.Unnamed.{unnamed_stmt, unnamed_kind, unnamed_arm, unnamed_decl, unnamed_block, unnamed_routine, unnamed_program}
-use Rattle.listing_laws.proofs.Events.{tokens-append, tokens-child}
+use Rattle.pascal_tree.specs.Unnamed as without
+use Rattle.pascal_tree.specs.Unnamed.{unnamed_stmt, unnamed_kind, unnamed_arm, unnamed_decl, unnamed_block, unnamed_routine, unnamed_program}
+use Rattle.own_tokens.proofs.EventTokens.{tokens-append, tokens-child}
 
 -- ---- events whose tokens are the same
 

@@ -1,2 +1,1 @@
 pub mod ReadsBack
-pub mod Unnamed

@@ -6,7 +6,8 @@ use Rattle.block_parser.proofs.blocks.+blocks.Given as goal
 abbrev pub invariant-routines-loop-turn : goal.invariant-routines-loop-turn
 invariant-routines-loop-turn g l =
     many routine_first (ended_routine (routine_in g.B.ReadsBodies.body_in l.depth)) [] l.fn.tokens
-    ≡ many_from routine_first (ended_routine (routine_in g.B.ReadsBodies.body_in l.depth)) (l._turn-end - l._turn) l.found l.tokens
+    ≡ many_from routine_first (ended_routine (routine_in g.B.ReadsBodies.body_in l.depth))
+    (l._turn-end - l._turn) l.found l.tokens
 
 abbrev pub decreases-routine : goal.decreases-routine
 decreases-routine g l = 4 * l.depth

@@ -5,4 +5,7 @@ use Rattle.declaration_parser.specs.Readers.{simple_in}
 use Rattle.declaration_parser.proofs.types.indexes.Given as goal
 
 abbrev pub invariant-loop-turn : goal.invariant-loop-turn
-invariant-loop-turn l = separated comma_class (simple_in l.depth) l.fn.tokens ≡ many_from (comma_class ∷ []) (expect comma_class >> simple_in l.depth) (l._turn-end - l._turn) l.found l.tokens
+invariant-loop-turn l =
+    separated comma_class (simple_in l.depth) l.fn.tokens
+    ≡ many_from (comma_class ∷ []) (expect comma_class >> simple_in l.depth)
+    (l._turn-end - l._turn) l.found l.tokens

@@ -7,4 +7,5 @@ use Rattle.declaration_parser.proofs.types.Types.fields.Given as goal
 abbrev pub invariant-loop-turn : goal.invariant-loop-turn
 invariant-loop-turn g l =
     ended semicolon_class (ident_class ∷ []) (field (simple_in l.depth) (type_in l.depth)) l.fn.tokens
-    ≡ ended_from semicolon_class (ident_class ∷ []) (field (simple_in l.depth) (type_in l.depth)) (l._turn-end - l._turn) l.found l.tokens
+    ≡ ended_from semicolon_class (ident_class ∷ []) (field (simple_in l.depth) (type_in l.depth))
+    (l._turn-end - l._turn) l.found l.tokens

@@ -8,7 +8,7 @@ use Rattle.pascal_tree.specs.declared.decl.Decl.{Decl}
 use Rattle.pascal_tree.specs.declared.decl.Block.{Block, Block-F, roll-Block, fold-Block}
 use Rattle.pascal_tree.specs.declared.decl.Routine.{Routine, Routine-F, roll-Routine, fold-Routine}
 use Rattle.pascal_tree.specs.declared.program.Tree.{Tree}
-use Rattle.pascal_tree.specs.Statements.{no_name}
+use Rattle.pascal_tree.specs.Declarations.{no_name}
 
 -- ---- statements
 
