@@ -8,13 +8,13 @@ use Rattle.pascal_tree.specs.declared.program.Tree.{Tree}
 use Rattle.pascal_tree.specs.declared.stmt.Stmt.{Stmt}
 use Rattle.pascal_semantics.specs.declared.form.Statement.{Statement}
 use Rattle.pascal_semantics.specs.Charge.{program_charge, charges_of}
-use Rattle.pascal_semantics.specs.State.{Status, NotStarted, Halted, Ended, Failed, loaded_state}
+use Rattle.pascal_semantics.specs.State.{loaded_state}
 use Rattle.pascal_semantics.specs.Valid.{IsProgram, code_room}
 use Rattle.pascal_print.specs.Listing.{listing}
 use Rattle.simple_form.specs.Simple.{resolution_of}
 use Rattle.tree_edit.specs.declared.fault.EditFault.{EditFault}
 use Rattle.tree_edit.specs.Edited.{replaced_program}
-use Rattle.dice_session.specs.World.{World, Mode, Commands, Loading, Over, Reply, reply_line, load_reply, program_reply, loaded_line, statements_of, or_none, refusal, machine_reply, if_program, with_program, begun_reply, if_fits, full_words, unless_halted, apply_fitting, apply_reply, if_built, edit_reply, replace_reply, edit_fault_text, list_reply}
+use Rattle.dice_session.specs.World.{World, Mode, Commands, Loading, Over, reply_line, load_reply, program_reply, loaded_line, statements_of, or_none, refusal, machine_reply, if_program, with_program, begun_reply, full_words, unless_halted, apply_fitting, apply_reply, if_built, edit_reply, replace_reply, edit_fault_text, list_reply}
 use Rattle.dice_session.specs.Simulates.{SimulatesRun}
 use Rattle.dice_session.specs.SessionOf.{HasMode, HasStatements, HasProgram, IsSessionOf, Became}
 use Rattle.dice_session.specs.Progress.{progress_of, is_halted}

@@ -1,11 +1,7 @@
 -- Texts as what a result says of them.
-use Rattle.std.proofs.Common.{◌≡◌, ◌≤◌, ◌<◌, ℕ, List, Result, Ok, Err, length, inl, inr}
+use Rattle.std.proofs.Common.{◌≡◌, ◌≤◌, ◌<◌, ℕ, Result, Ok, Err, inl, inr}
 use Rattle.std.proofs.lemmas.Bool.{cases_lt}
-use Rattle.std.specs.Prelude.{OnOk}
-use Rattle.dice_base.specs.Forms.{Form}
 use Rattle.pascal_scanner.specs.declared.limits.TheConstants.{MAX_TEXT_BYTES}
-use Rattle.dice_session.specs.declared.reading.TextFault.{TextFault}
-use Rattle.dice_session.specs.Reading.{TextSays, IsOfText, IsTextOf}
 
 pub not-long : (n : ℕ) → (MAX_TEXT_BYTES < n → ⊥) → n ≤ MAX_TEXT_BYTES
 not-long n short = elim (cases_lt MAX_TEXT_BYTES n) [ inl long ↦ absurd (short long) | inr le ↦ le ]

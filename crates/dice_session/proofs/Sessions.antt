@@ -19,7 +19,7 @@ use Rattle.dice_command.specs.Command.{Asked, Blank, Bad, Replace, asked, comman
 use Rattle.dice_command.specs.declared.command.LineCommand.{LineCommand}
 use Rattle.pascal_tree.specs.declared.program.Tree.{Tree}
 use Rattle.pascal_tree.specs.declared.stmt.Stmt.{Stmt}
-use Rattle.dice_session.specs.Reading.{IsProgramText, IsStmtText, IsOfText}
+use Rattle.dice_session.specs.Reading.{IsProgramText, IsStmtText}
 use Rattle.dice_session.specs.declared.reading.TextFault.{TextFault}
 use Rattle.dice_session.specs.Progress.{progress_of, progress_after, is_over}
 use Rattle.dice_session.specs.declared.progress.Progress.TheVariants as progress

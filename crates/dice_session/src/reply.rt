@@ -89,9 +89,7 @@ fn refuse_parse(alloc: Global, out: &mut Text, fault: ParseFault) -> Result<(), 
     ensures told { OnOk result (IsOfText (TextFault.Parse fault)) }
 {
     match fault {
-        ParseFault::Unexpected(token) => {
-            refuse_at(alloc, out, b"parse fault at token ", token)
-        }
+        ParseFault::Unexpected(token) => { refuse_at(alloc, out, b"parse fault at token ", token) }
         ParseFault::EndsEarly => refuse(alloc, out, b"parse fault end"),
         ParseFault::TooDeep => refuse(alloc, out, b"too deep"),
         ParseFault::NoMemory => Err(NoMemory),
