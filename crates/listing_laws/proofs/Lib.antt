@@ -1,4 +1,5 @@
 mod Examples
+pub mod Folds
 pub mod Gaps
 pub mod Layouts
 pub mod ReadsBack
