@@ -1,7 +1,7 @@
-mod Examples
 pub mod Folds
 pub mod Gaps
 pub mod Layouts
+pub mod ListedNames
 pub mod ReadsBack
 pub mod Spellings
 pub mod Unnamed
