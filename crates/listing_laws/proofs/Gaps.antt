@@ -6,7 +6,7 @@ use Rattle.dice_base.specs.declared.byte.ByteClass.TheVariants.{Letter, Digit, S
 use Rattle.dice_base.specs.declared.token.TokenKind.{TokenKind}
 use Rattle.dice_base.specs.declared.token.TokenKind.TheVariants.{Word, Ident, Number, Str, Sign, Hole}
 use Rattle.dice_base.specs.declared.symbols.TheConstants.{SIGNS}
-use Rattle.dice_base.specs.Lexemes.{class, is_letter, is_digit, word_byte, digit_byte, doubled_apostrophes, sign_of, alternative_of, Lexeme, word, number, string, sign, alternative, hole, opens_comment, opens_string, MayFollow, Takes, blank, LexesTo, ends, skips, takes}
+use Rattle.dice_base.specs.Lexemes.{class, is_letter, is_digit, word_byte, digit_byte, doubled_apostrophes, sign_of, alternative_of, Lexeme, word, number, string, sign, alternative, hole, opens_comment, opens_string, string_byte, MayFollow, Takes, blank, LexesTo, ends, skips, takes}
 use Rattle.pascal_scanner.proofs.Signs.{some, found_passes, by_alternative}
 use Rattle.pascal_scanner.proofs.Classes.{lexeme_front, string_lexeme}
 use Rattle.pascal_scanner.proofs.Comments.{no_comment}
@@ -15,14 +15,14 @@ use Rattle.pascal_scanner.proofs.Takes.{lexeme-some}
 
 -- ---- bytes that are no separators, outside strings
 
-abbrev is_solid : ByteClass → Bool
+abbrev pub is_solid : ByteClass → Bool
 is_solid Separator = false
 is_solid _ = true
 
-abbrev solid : ℕ → Bool
+abbrev pub solid : ℕ → Bool
 solid c = is_solid (class c)
 
-abbrev all_solid : List ℕ → Bool
+abbrev pub all_solid : List ℕ → Bool
 all_solid [] = true
 all_solid (c ∷ w) = solid c && all_solid w
 
@@ -48,17 +48,17 @@ digits-solid (c ∷ w) each = rw (digit-solid (class c) each.0) (digits-solid w 
 
 -- a token is a string, or no separator stands in it
 pub data IsSolid (w : List ℕ) : Type 0 where
-  quoted : (cs : List ℕ) → w ≡ 39 ∷ doubled_apostrophes cs ++ 39 ∷ [] → IsSolid w
+  quoted : (cs : List ℕ) → AllByRecursion (λ b. string_byte b ≡ true) cs → w ≡ 39 ∷ doubled_apostrophes cs ++ 39 ∷ [] → IsSolid w
   solid_all : all_solid w ≡ true → IsSolid w
 
 alternative-solid : (w : List ℕ) (k : ℕ) → alternative_of w ≡ some k → all_solid w ≡ true
 alternative-solid = by_alternative (λ w o. all_solid w ≡ true) refl refl refl
 
-lexeme-solid : (w : List ℕ) (t : TokenKind) → Lexeme w t → IsSolid w
+pub lexeme-solid : (w : List ℕ) (t : TokenKind) → Lexeme w t → IsSolid w
 unfolding sign_of
 lexeme-solid w t (word c cs is each) = solid_all (rw is (words-solid cs each))
 lexeme-solid w t (number c cs is each low) = solid_all (rw is (digits-solid cs each))
-lexeme-solid w t (string cs some each) = quoted cs refl
+lexeme-solid w t (string cs some each) = quoted cs each refl
 lexeme-solid w t (sign v k e) = solid_all (found_passes all_solid w 0 (map (λ s. s.now) SIGNS) k e refl)
 lexeme-solid w t (alternative v k e) = solid_all (alternative-solid w k e)
 lexeme-solid w t hole = solid_all refl
@@ -120,7 +120,7 @@ no_longer : (w v rest r : List ℕ) (t u : TokenKind) → Lexeme w t → Lexeme 
 no_longer w v rest r t u l m gap e = go (lexeme-solid v u m) where
   go : IsSolid v → length v ≤ length w
   go (solid_all s) = within w v rest r gap e s
-  go (quoted cs is) =
+  go (quoted cs each is) =
       -- then the first token is a string too
       let f = lexeme_front 39 (doubled_apostrophes cs ++ 39 ∷ r) w rest t (sym (e ∙ ap (λ (x : List ℕ). x ++ r) is ∙ ap (λ (x : List ℕ). 39 ∷ x) (append_assoc (doubled_apostrophes cs) (39 ∷ []) r))) l in
       let s = string_lexeme f.0 t f.3 in

@@ -123,7 +123,7 @@ digit-range c e =
 range-digit : (c : ℕ) → IsInRange 48 57 c → digit_byte c ≡ true
 range-digit c r = rw (lt-leb 65 c (omega arith), lt-leb 97 c (omega arith), le-leb 48 c r.0, le-leb c 57 r.1) refl
 
-numerals : IsNumeralModel (AllByRecursion (λ b. digit_byte b ≡ true)) value_of
+pub numerals : IsNumeralModel (AllByRecursion (λ b. digit_byte b ≡ true)) value_of
 numerals = numerals_by_fold _ (record {
   empty = tt;
   parts = λ c cs p. (digit-range c p.0, p.1);

@@ -13,18 +13,18 @@ use Rattle.pascal_tree.specs.Classes.{open_class, close_class}
 use Rattle.pascal_tree.specs.Joined.{flat, behind_each, join}
 use Rattle.pascal_tree.specs.ExprTokens.{in_parens}
 
--- ---- what holds of each of some tokens
+-- ---- what holds of each item of two lists
 
-module _ (P : TokenKind → Type 0) where
-  all-left : (x y : Toks) → AllByRecursion P (x ++ y) → AllByRecursion P x
+module _ {X : Type 0} (P : X → Type 0) where
+  pub all-left : (x y : List X) → AllByRecursion P (x ++ y) → AllByRecursion P x
   all-left [] y h = tt
   all-left (t ∷ x) y h = (h.0, all-left x y h.1)
 
-  all-right : (x y : Toks) → AllByRecursion P (x ++ y) → AllByRecursion P y
+  pub all-right : (x y : List X) → AllByRecursion P (x ++ y) → AllByRecursion P y
   all-right [] y h = h
   all-right (t ∷ x) y h = all-right x y h.1
 
-  all-append : (x y : Toks) → AllByRecursion P x → AllByRecursion P y → AllByRecursion P (x ++ y)
+  all-append : (x y : List X) → AllByRecursion P x → AllByRecursion P y → AllByRecursion P (x ++ y)
   all-append [] y h k = k
   all-append (t ∷ x) y h k = (h.0, all-append x y h.1 k)
 
