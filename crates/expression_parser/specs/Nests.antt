@@ -1,5 +1,5 @@
--- A function value that reads expressions of fewer levels: so the rules are proved one by one, each over a reader of what
--- nests in it, and only the last function closes the circle.
+-- A function value that reads expressions of fewer levels: so each function is proved by itself, over a reader of what
+-- nests in it, and only the last one closes the circle.
 use Rattle.std.specs.Prelude.{ℕ, ◌<◌, Result}
 use Rattle.std.specs.declared.alloc.Global.{Global}
 use denote.Ref.{MutBor}

@@ -1,4 +1,5 @@
-//! Expressions. The rules take the reader of the inner expressions as a parameter, so that each is proved by itself.
+//! Expressions, accesses and arguments. The methods take the reader of inner expressions as a parameter, so that each is
+//! proved by itself.
 ghost use Rattle.std.specs.Prelude.{◌≡◌, [], ◌∷◌, IfOk};
 ghost use Rattle.dice_base.specs.Tokens.{keys};
 ghost use Rattle.pascal_tree.specs.Classes.{comma_class};
@@ -21,7 +22,7 @@ use token_reader::classes::{
 };
 use token_reader::{Cursor, Stop};
 
-/// The rules over a reader of the expressions one level further in.
+/// Readers over a reader of the expressions one level further in.
 #[derive(Clone, Copy)]
 pub struct Grammar<F> {
     alloc: Global,
@@ -269,7 +270,7 @@ impl<F: Fn(Global, &mut Cursor<'_>, usize) -> Result<Expr, Stop>> Grammar<F> {
         }
     }
 
-    /// An expression in parentheses, in a box.
+    // An expression one level further in, in a box: so no large value is let go of where `)` is missing.
     fn boxed(&self, tokens: &mut Cursor<'_>, depth: usize) -> Result<Boxed<Expr>, Stop>
         requires { Nests depth (F.pre self.now.expr) (F.post self.now.expr) }
         ensures { Reads ((inside depth).expr tokens.old) result tokens.new }

@@ -1,5 +1,5 @@
 -- What each call answers is what holds of the tokens, by the laws of its reader at each level.
-use Rattle.std.specs.Prelude.{Result, Ok, Err}
+use Rattle.std.specs.Prelude.{◌-◌, Result, Ok, Err}
 use Rattle.std.proofs.Common.{refl}
 use Rattle.dice_base.specs.Tokens.{Toks}
 use Rattle.pascal_tree.specs.declared.stmt.Stmt.{Stmt}
@@ -8,6 +8,10 @@ use Rattle.pascal_tree.specs.declared.decl.Heading.{Heading}
 use Rattle.pascal_tree.specs.declared.program.Header.{Header}
 use Rattle.pascal_tree.specs.declared.levels.TheConstants.{LEVELS}
 use Rattle.pascal_tree.specs.Declarations.{decl_at}
+use Rattle.pascal_tree.specs.declared.decl.Routine.{Routine}
+use Rattle.pascal_tree.specs.declared.program.Tree.{Tree}
+use Rattle.pascal_tree.specs.Naming.{numbered_program}
+use Rattle.pascal_tree.specs.Programs.{program_at, routine_at}
 use Rattle.pascal_tree.specs.Statements.{stmt_at, header_at}
 use Rattle.token_reader.specs.Faults.{read_whole}
 use Rattle.token_reader.specs.Answers.{Answers, Makes, IsReading}
@@ -16,10 +20,13 @@ use Rattle.token_reader.proofs.Reading.{is_reading}
 use Rattle.token_reader.proofs.Rules.{flags}
 use Rattle.declaration_parser.specs.Readers.{decl}
 use Rattle.declaration_parser.proofs.DeclLevels.{decl_laws, decl_steady, heading_laws, heading_steady}
-use Rattle.statement_parser.specs.Readers.{stmt_in, header_in}
-use Rattle.statement_parser.proofs.StmtLevels.{stmt_laws, stmt_steady, header_laws, header_steady}
+use Rattle.block_parser.specs.Readers.{program_in, routine_in}
+use Rattle.block_parser.specs.Follows.{block_ends}
+use Rattle.block_parser.proofs.BlockLevels.{program_laws, program_steady, routine_laws, routine_steady}
+use Rattle.statement_parser.specs.Readers.{stmt_in, header_in, body_in}
+use Rattle.statement_parser.proofs.StmtLevels.{stmt_laws, stmt_steady, header_laws, header_steady, body_laws, body_slow, body_steady}
 use Rattle.pascal_parser.specs.Headings.{heading_at, heading_in}
-use Rattle.pascal_parser.specs.Named.{named_stmt, named_decl, named_header}
+use Rattle.pascal_parser.specs.Named.{named_stmt, named_decl, named_header, named_routine}
 
 pub stmt_reading : (ts : Toks) (r : Result Stmt ParseFault) (result : Result Stmt ParseFault) → Answers (read_whole stmt_in LEVELS ts) r → Makes named_stmt r result
     → IsReading stmt_at LEVELS named_stmt ts result
@@ -41,3 +48,15 @@ same_made (Err e) = refl
 pub heading_reading : (ts : Toks) (r : Result Heading ParseFault) → Answers (read_whole heading_in LEVELS ts) r → IsReading heading_at LEVELS (λ h. h) ts r
 unfolding heading_in heading_at
 heading_reading ts r e = is_reading heading_in heading_at (λ d. heading_laws.0) (λ d. heading_laws.1) (λ d. heading_steady) (flags _ refl refl) (λ h. h) LEVELS ts r r e (same_made r)
+
+pub program_reading : (ts : Toks) (r : Result Tree ParseFault) (result : Result Tree ParseFault) → Answers (read_whole (program_in body_in) (LEVELS - 1) ts) r → Makes numbered_program r result
+    → IsReading program_at (LEVELS - 1) numbered_program ts result
+program_reading ts =
+    is_reading (program_in body_in) program_at (λ d. (program_laws body_in (body_laws block_ends) body_slow body_steady d).0) (λ d. (program_laws body_in (body_laws block_ends) body_slow body_steady d).1)
+    (program_steady body_in (body_laws block_ends) body_slow body_steady) (flags _ refl refl) numbered_program (LEVELS - 1) ts
+
+pub routine_reading : (ts : Toks) (r : Result Routine ParseFault) (result : Result Routine ParseFault) → Answers (read_whole (routine_in body_in) LEVELS ts) r → Makes named_routine r result
+    → IsReading routine_at LEVELS named_routine ts result
+routine_reading ts =
+    is_reading (routine_in body_in) routine_at (λ d. (routine_laws body_in (body_laws block_ends) body_slow body_steady d).0) (λ d. (routine_laws body_in (body_laws block_ends) body_slow body_steady d).1)
+    (routine_steady body_in (body_laws block_ends) body_slow body_steady) (flags _ refl refl) named_routine LEVELS ts

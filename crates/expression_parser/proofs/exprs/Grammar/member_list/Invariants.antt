@@ -7,4 +7,5 @@ use Rattle.expression_parser.proofs.exprs.Grammar.member_list.Given as goal
 abbrev pub invariant-loop-turn : goal.invariant-loop-turn
 invariant-loop-turn g l =
     separated comma_class (member (inside l.depth)) l.fn.tokens
-    ≡ many_from (comma_class ∷ []) (expect comma_class >> member (inside l.depth)) (l._turn-end - l._turn) l.found l.tokens
+    ≡ many_from (comma_class ∷ []) (expect comma_class >> member (inside l.depth))
+    (l._turn-end - l._turn) l.found l.tokens
