@@ -22,11 +22,11 @@ use Rattle.pascal_print.specs.declared.event.Event.TheVariants.{Item, Part, Back
 use Rattle.pascal_print.specs.declared.event.Line.{Line}
 use Rattle.pascal_print.specs.Events.{program_events, program_tokens}
 use Rattle.pascal_print.specs.Listing.{closes, begins, on_line, rest_of, listing_lines, blanks, places, spellings_after_blanks, spellings_of, indented_line, named_line, text_of_lines, listing}
-use Rattle.own_tokens.proofs.Written.{all-left, all-right}
+use Rattle.dice_base.proofs.Appended.{all-left, all-right}
 use Rattle.listing_laws.specs.FirstColumn.{after_blanks, number_in_front, first_column, ListsNames}
-use Rattle.listing_laws.proofs.Gaps.{solid, all_solid, IsSolid, quoted, solid_all, lexeme-solid}
-use Rattle.listing_laws.proofs.Spellings.{IsSpelt, numerals}
-use Rattle.listing_laws.proofs.Layouts.{tokens_in, lines-tokens}
+use Rattle.token_texts.proofs.Gaps.{solid, all_solid, IsSolid, quoted, solid_all, lexeme-solid}
+use Rattle.token_texts.proofs.Spellings.{IsSpelt, numerals}
+use Rattle.token_texts.proofs.Layouts.{tokens_in, lines-tokens}
 use Rattle.listing_laws.proofs.ListedNames.{item_names, program-names}
 use Rattle.listing_laws.proofs.ReadsBack.{source-spelt}
 

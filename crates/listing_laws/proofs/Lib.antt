@@ -1,8 +1,5 @@
 pub mod Column
 pub mod Folds
-pub mod Gaps
-pub mod Layouts
 pub mod ListedNames
 pub mod ReadsBack
-pub mod Spellings
 pub mod Unnamed

@@ -5,6 +5,7 @@ use Rattle.std.proofs.Common.{refl, sym, ap, subst, ◌∙◌, arith, inl, inr, 
 use Rattle.std.specs.List.{AllByRecursion}
 use Rattle.dice_base.specs.declared.token.TokenKind.{TokenKind}
 use Rattle.dice_base.specs.declared.token.TokenKind.TheVariants.{Word, Ident, Number, Str, Sign, Hole}
+use Rattle.dice_base.proofs.Appended.{all-left, all-right, all-append}
 use Rattle.dice_base.specs.Tokens.{Toks, class_of, has_class, operator, operator_of, ident_of, number_of, string_of}
 use Rattle.dice_base.specs.Forms.{Form, never, just, one, token, chain, either, named, numeral, quoted, row, rows_behind, rows, some_rows, list_of, ended_behind, ended_list}
 use Rattle.dice_base.specs.declared.symbols.signs.TheConstants as signs
@@ -12,21 +13,6 @@ use Rattle.dice_base.specs.Symbols.{open_sign, close_sign}
 use Rattle.pascal_tree.specs.Classes.{open_class, close_class}
 use Rattle.pascal_tree.specs.Joined.{flat, behind_each, join}
 use Rattle.pascal_tree.specs.ExprTokens.{in_parens}
-
--- ---- what holds of each item of two lists
-
-module _ {X : Type 0} (P : X → Type 0) where
-  pub all-left : (x y : List X) → AllByRecursion P (x ++ y) → AllByRecursion P x
-  all-left [] y h = tt
-  all-left (t ∷ x) y h = (h.0, all-left x y h.1)
-
-  pub all-right : (x y : List X) → AllByRecursion P (x ++ y) → AllByRecursion P y
-  all-right [] y h = h
-  all-right (t ∷ x) y h = all-right x y h.1
-
-  all-append : (x y : List X) → AllByRecursion P x → AllByRecursion P y → AllByRecursion P (x ++ y)
-  all-append [] y h k = k
-  all-append (t ∷ x) y h k = (h.0, all-append x y h.1 k)
 
 abbrev pub some_of : {A : Type 0} → A → Option A
 some_of a = Some a

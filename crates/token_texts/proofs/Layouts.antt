@@ -15,9 +15,9 @@ use Rattle.pascal_print.specs.declared.event.Event.TheVariants.{Item, Part, Back
 use Rattle.pascal_print.specs.declared.event.Line.{Line}
 use Rattle.pascal_print.specs.Events.{Laid, tokens_of, in_kind, in_arm, in_stmt, stmt_events, kind_events, arm_events, program_events, program_tokens, statement_tokens}
 use Rattle.pascal_print.specs.Listing.{closes, begins, on_line, rest_of, listing_lines, blanks, spellings_after_blanks, spellings_of, plain_line, text_of_lines, listing, statement_listing}
-use Rattle.own_tokens.proofs.Written.{all-left, all-right}
-use Rattle.listing_laws.proofs.Gaps.{OpensGap, Spaced, nothing, gap, puts}
-use Rattle.listing_laws.proofs.Spellings.{IsSpelt}
+use Rattle.dice_base.proofs.Appended.{all-left, all-right}
+use Rattle.token_texts.proofs.Gaps.{OpensGap, Spaced, nothing, gap, puts}
+use Rattle.token_texts.proofs.Spellings.{IsSpelt}
 
 abbrev AreSpelt : Toks → Type 0
 AreSpelt ts = AllByRecursion IsSpelt ts
