@@ -1,5 +1,6 @@
 pub mod Column
 pub mod Folds
 pub mod ListedNames
+pub mod Moved
 pub mod ReadsBack
 pub mod Unnamed
