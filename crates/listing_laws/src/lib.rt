@@ -1,4 +1,4 @@
-//! What a listing says: without names it is read back as the same tree, names aside; with them, its first column has the
+//! What a listing says. Without names it is read back as the same tree, names aside. With them its first column has the
 //! names of the items.
 #![tactic(auto)]
 

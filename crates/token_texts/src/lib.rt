@@ -1,2 +1,3 @@
-//! That a text in which tokens are written with separators between them, as a listing without names is, has these tokens.
+//! That a text in which tokens are written with separators between them has these tokens; and that a listing without
+//! names is such a text.
 #![tactic(auto)]

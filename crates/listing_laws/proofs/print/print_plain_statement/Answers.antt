@@ -8,4 +8,5 @@ use Rattle.listing_laws.proofs.print.print_plain_statement.Goals as goal
 pub returns-clause-reads_back : goal.returns-clause-reads_back
 returns-clause-reads_back c =
     let s = c.args.statement.now in
-    ok_moved (λ text. StatementReadsBack s text) (statement_listing s) (statement_reads_back s) _ c.print_statement.ensures
+    ok_moved (λ text. StatementReadsBack s text) (statement_listing s)
+    (statement_reads_back s) _ c.print_statement.ensures
