@@ -1,4 +1,5 @@
 pub mod Column
+mod Examples
 pub mod Folds
 pub mod ListedNames
 pub mod Moved
