@@ -1,6 +1,7 @@
+pub mod Column
 mod Examples
-pub mod Gaps
-pub mod Layouts
+pub mod Folds
+pub mod ListedNames
+pub mod Moved
 pub mod ReadsBack
-pub mod Spellings
 pub mod Unnamed

@@ -4,6 +4,7 @@ pub mod Programs
 pub mod Statements
 pub mod Classes
 pub mod Depth
+pub mod Openness
 pub mod Joined
 pub mod ExprTokens
 pub mod DeclTokens
