@@ -20,7 +20,7 @@ LIST = re.compile(r"^(?:pub )?use Rattle\.([\w.-]+)\.\{(.*)\}$")
 WHOLE = re.compile(r"^(?:pub )?use Rattle\.([\w.-]+) as (\S+)$")
 BLOCK = re.compile(r"^(?:(?:unfoldable |abbrev )?mutual|module _ .* where)$")
 TYPE = re.compile(r"^(?:pub )?(?:record|data) (\S+)")
-FUNCTION = re.compile(r"^(?:abbrev |unfoldable )?(?:pub )?(\S+) : ")
+FUNCTION = re.compile(r"^(?:abbrev |unfoldable )?(?:pub )?(\S+) :(?: |$)")
 CONSTRUCTOR = re.compile(r"^ +(\S+) :")
 WORD = re.compile(r"[A-Za-z_][\w'-]*(?:\.[A-Za-z_][\w'-]*)*")
 

@@ -1,4 +1,5 @@
 pub mod Causes
+pub mod Forms
 pub mod IntegerText
 pub mod Known
 pub mod Lexemes
@@ -8,4 +9,5 @@ pub mod Memory
 pub mod Part
 pub mod Standard
 pub mod Symbols
+pub mod Tokens
 pub mod Word

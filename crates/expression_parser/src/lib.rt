@@ -1,13 +1,11 @@
-//! Reads expressions of the grammar from the tokens that are left, and what is common to all readers: the tokens that
-//! are left, and the classes of tokens.
+//! Reads expressions, accesses and arguments from the tokens that are left.
 //!
-//! Each function answers what the reading function of its name answers (grammar_laws, `Reading`), and leaves the tokens
-//! that it leaves.
+//! Each function answers what the reader of its name answers (`Readers` in specs/), and leaves the tokens that it leaves.
+//! In `proofs/` stand the laws that tie these readers to the grammar: `ExprRules` has one rule for each of them, and
+//! `ExprLevels` has the laws for every number of levels.
 #![tactic(auto)]
 
-pub mod classes;
-mod cursor;
 mod exprs;
+mod operators;
 
-pub use cursor::Cursor;
-pub use exprs::{access_parts, expr, inner_expr};
+pub use exprs::{access, access_rest, args, expr, inner_expr};

@@ -1,16 +1,12 @@
--- Names that are left out.
-use Rattle.std.specs.Prelude.{◌≡◌, Some}
-use Rattle.std.proofs.Common.{ap, sym, ◌∙◌}
-use Rattle.pascal_tree.specs.declared.stmt.Stmt.{roll-Stmt}
-use Rattle.pascal_tree.specs.declared.stmt.StmtKind.{StmtKind, StmtKind-F}
-use Rattle.pascal_tree.specs.declared.stmt.StmtKind.TheVariants.{Empty, rolls-Empty}
-use Rattle.pascal_tree.specs.Statements.{no_name}
-use Rattle.listing_laws.specs.Unnamed.{unnamed_stmt, unnamed_kind}
-use Rattle.listing_laws.proofs.Unnamed.{kind-without, stmt-without}
+-- The first column of some lines.
+use Rattle.std.specs.Prelude.{◌≡◌, List, [], ◌∷◌, codes}
+use Rattle.std.proofs.Common.{refl}
+use Rattle.dice_base.specs.Lines.{joined, lines_of, whole_lines}
+use Rattle.listing_laws.specs.FirstColumn.{first_column}
 
-empty-unnamed : unnamed_kind Empty ≡ Empty
-empty-unnamed = ap unnamed_kind (sym rolls-Empty) ∙ kind-without StmtKind-F.Empty ∙ rolls-Empty
-
--- a label stays
-label-stays : unnamed_stmt (roll-Stmt (record { name = record { 0 = 7 }; label = Some 3; kind = Empty })) ≡ roll-Stmt (record { name = no_name; label = Some 3; kind = Empty })
-label-stays = stmt-without (record { name = record { 0 = 7 }; label = Some 3; kind = Empty }) ∙ ap (λ (k : StmtKind). roll-Stmt (record { name = no_name; label = Some 3; kind = k })) empty-unnamed
+-- a line without a name may begin with a number, and a name may have more than six digits
+some_names : first_column (joined (codes "     1 program a ;" ∷ codes "       label" ∷ codes "    12   7 ;"
+    ∷ codes "         2 :" ∷ codes "   345" ∷ codes "1000000     i := 7" ∷ []))
+    ≡ 1 ∷ 12 ∷ 345 ∷ 1000000 ∷ []
+unfolding lines_of whole_lines
+some_names = refl

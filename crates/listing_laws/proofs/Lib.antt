@@ -1,12 +1,7 @@
-pub mod Classes
-pub mod Events
+pub mod Column
 mod Examples
-pub mod ExprTokens
-pub mod Gaps
-pub mod Layouts
-pub mod Numbered
-pub mod ProgramTokens
+pub mod Folds
+pub mod ListedNames
+pub mod Moved
 pub mod ReadsBack
-pub mod Spellings
-pub mod Trees
 pub mod Unnamed

@@ -1,72 +1,115 @@
 -- A listing without names is read back.
-use Rattle.std.specs.Prelude.{◌≡◌, ℕ, List, [], ◌++◌, Result, Ok, Err, IfOk}
-use Rattle.std.proofs.Common.{false, refl, sym, subst, ◌∙◌}
+use Rattle.std.specs.Prelude.{◌≡◌, ℕ, ◌-◌, Bool, true, false, [], Result}
+use Rattle.std.proofs.Common.{refl, sym, ap, subst, ◌∙◌}
 use Rattle.std.specs.List.{AllByRecursion}
-use Rattle.dice_base.specs.declared.fault.NoMemory.{NoMemory}
 use Rattle.dice_base.specs.Lexemes.{Lexes}
+use Rattle.dice_base.specs.Tokens.{Toks, Classes, end_of_tokens, is_in}
+use Rattle.dice_base.specs.Forms.{Form}
+use Rattle.pascal_tree.specs.declared.levels.TheConstants.{LEVELS}
 use Rattle.pascal_tree.specs.declared.stmt.Stmt.{Stmt}
 use Rattle.pascal_tree.specs.declared.program.Tree.{Tree}
-use Rattle.pascal_tree.specs.Tokens.{Toks}
 use Rattle.pascal_tree.specs.Statements.{stmt_at}
 use Rattle.pascal_tree.specs.Programs.{Derives}
-use Rattle.grammar_laws.specs.StmtReading.{stmt_in}
-use Rattle.grammar_laws.proofs.StmtLaws.{stmt_rules}
-use Rattle.grammar_laws.proofs.Rules.{ok, ok_value}
-use Rattle.grammar_laws.proofs.ProgramLaws.{program_only}
+use Rattle.pascal_tree.specs.Unnamed.{unnamed_stmt, unnamed_program}
+use Rattle.pascal_tree.specs.Sources.{HasSource, HasStatementSource}
+use Rattle.token_reader.specs.declared.stop.Stop.{Stop}
+use Rattle.token_reader.specs.Readers.{Parser}
+use Rattle.token_reader.proofs.Laws.{One}
+use Rattle.statement_parser.specs.Readers.{body_in}
+use Rattle.statement_parser.specs.Follows.{follows}
+use Rattle.statement_parser.proofs.StmtLevels.{stmt_laws, body_laws, body_slow, body_steady}
+use Rattle.block_parser.specs.Follows.{block_ends}
+use Rattle.block_parser.proofs.BlockLevels.{program_laws}
 use Rattle.pascal_scanner.proofs.Onward.{Lexes-one}
 use Rattle.pascal_print.specs.Events.{program_tokens, statement_tokens}
 use Rattle.pascal_print.specs.Listing.{listing, statement_listing}
-use Rattle.listing_laws.specs.Unnamed.{unnamed_stmt, unnamed_program}
+use Rattle.own_tokens.proofs.Written.{own-spell, own-among}
+use Rattle.own_tokens.proofs.ProgramWritten.{stmt-written, program-derives, program-among}
 use Rattle.listing_laws.specs.ReadsBack.{ReadsBack, StatementReadsBack}
-use Rattle.listing_laws.proofs.Gaps.{spaced-lexes}
-use Rattle.listing_laws.proofs.Spellings.{IsSpelt, lexes-spelt}
-use Rattle.listing_laws.proofs.Layouts.{listing-spaced, statement-spaced}
-use Rattle.listing_laws.proofs.ProgramTokens.{stmt-tokens, program-tokens}
+use Rattle.token_texts.proofs.Gaps.{spaced-lexes}
+use Rattle.token_texts.proofs.Spellings.{IsSpelt, lexes-spelt}
+use Rattle.token_texts.proofs.Layouts.{listing-spaced, statement-spaced}
 use Rattle.listing_laws.proofs.Unnamed.{stmt-tokens-unnamed, program-tokens-unnamed}
 
-derives-one : (ts : Toks) (p q : Tree) → Derives p ts → Derives q ts → p ≡ q
-derives-one ts p q a b = ok_value _ _ _ _ (sym (program_only p ts a) ∙ program_only q ts b)
+-- ---- at most one tree
 
-listing-lexes : (p : Tree) (ts : Toks) → ts ≡ program_tokens p → AllByRecursion IsSpelt ts → Lexes (listing false p) ts
-listing-lexes p ts same each =
-    subst (λ (us : Toks). Lexes (listing false p) us) (sym same) (spaced-lexes (listing false p) (program_tokens p) (listing-spaced p (subst (λ (us : Toks). AllByRecursion IsSpelt us) same each)))
+-- what a reader takes where nothing follows
+one-tree : {A : Type 0} {P L : Classes} {p : Parser A} {g : Form A} {D F : Bool → Classes} → One P L p g D F
+    → ((w : Bool) → is_in (F w) end_of_tokens ≡ true)
+    → (ts : Toks) (a b : A) (v w : Bool) → g.full a v ts → g.full b w ts → a ≡ b
+one-tree {A} laws ends ts a b v w x y =
+    let same = ap (λ (r : Result A Stop × Toks). r.0)
+    (sym (laws.takes a v ts [] x (ends v)) ∙ laws.takes b w ts [] y (ends w)) in cc
 
+one-program : (ts : Toks) (p q : Tree) → Derives p ts → Derives q ts → p ≡ q
+one-program ts p q x y =
+    one-tree (program_laws body_in (body_laws block_ends) body_slow body_steady (LEVELS - 1)).0
+    (λ w. refl) ts p q false false x y
+
+one-statement : (levels : ℕ) (ts : Toks) (x y : Stmt) (v w : Bool) → (stmt_at levels).full x v ts
+    → (stmt_at levels).full y w ts → x ≡ y
+one-statement levels ts x y v w a b = one-tree (stmt_laws levels).0 (ends) ts x y v w a b where
+  ends : (w : Bool) → is_in (follows w) end_of_tokens ≡ true
+  ends true = refl
+  ends false = refl
+
+-- ---- programs
+
+-- a program that some tokens spell, names aside, is spelled by its own tokens
+pub own-program : (p : Tree) (ts : Toks) → Derives (unnamed_program p) ts → Derives (unnamed_program p) (program_tokens p)
+own-program p ts h =
+    subst (λ (us : Toks). Derives (unnamed_program p) us) (program-tokens-unnamed p)
+    (program-derives (unnamed_program p) ts h)
+
+-- each token of a program that some text spells is read again as it is spelt
+pub source-spelt : (p : Tree) → HasSource p → AllByRecursion IsSpelt (program_tokens p)
+source-spelt p h =
+    subst (λ (ts : Toks). AllByRecursion IsSpelt ts) (program-tokens-unnamed p)
+    (program-among IsSpelt (unnamed_program p) h.tokens h.derives (lexes-spelt [] h.source h.tokens h.lexes))
+
+-- its listing is read back
 pub reads_back : (p : Tree) → ReadsBack p (listing false p)
-reads_back p source ts l d =
-    let lexes : Lexes (listing false p) ts = listing-lexes p ts (program-tokens (unnamed_program p) ts d ∙ program-tokens-unnamed p) (lexes-spelt [] source ts l) in
+reads_back p h =
+    let lexes : Lexes (listing false p) (program_tokens p) = spaced-lexes (listing false p) (program_tokens p)
+    (listing-spaced p (source-spelt p h)) in
+    let derives = own-program p h.tokens h.derives in
     record {
       lexes = lexes;
-      derives = d;
-      only = λ us other m e. derives-one ts other (unnamed_program p) (subst (λ (vs : Toks). Derives other vs) (Lexes-one (listing false p) us ts m lexes) e) d;
+      derives = derives;
+      only = λ us other m e.
+          one-program (program_tokens p) other (unnamed_program p)
+          (subst (λ (ts : Toks). Derives other ts)
+          (Lexes-one (listing false p) us (program_tokens p) m lexes) e) derives;
     }
-
-pub ok_reads_back : (r : Result (List ℕ) NoMemory) (p : Tree) → IfOk r (λ text. text ≡ listing false p) → IfOk r (λ text. ReadsBack p text)
-ok_reads_back (Ok text) p is = subst (λ (t : List ℕ). ReadsBack p t) (sym is) (reads_back p)
-ok_reads_back (Err e) p is = tt
 
 -- ---- statements
 
-statement-one : (d : ℕ) (ts : Toks) (x y : Stmt) → stmt_at d x tt ts → stmt_at d y tt ts → x ≡ y
-statement-one d ts x y a b =
-    let p : stmt_in d (ts ++ []) ≡ ok x [] = (stmt_rules d).takes x tt ts [] a refl in
-    let q : stmt_in d (ts ++ []) ≡ ok y [] = (stmt_rules d).takes y tt ts [] b refl in
-    ok_value _ _ _ _ (sym p ∙ q)
+statement-unnamed : (s : Stmt) → statement_tokens (unnamed_stmt s) ≡ statement_tokens s
+statement-unnamed s = ((stmt-tokens-unnamed s).laid 0).same
 
-statement-lexes : (x : Stmt) (ts : Toks) → ts ≡ statement_tokens x → AllByRecursion IsSpelt ts → Lexes (statement_listing x) ts
-statement-lexes x ts same each =
-    subst (λ (us : Toks). Lexes (statement_listing x) us) (sym same)
-    (spaced-lexes (statement_listing x) (statement_tokens x) (statement-spaced x (subst (λ (us : Toks). AllByRecursion IsSpelt us) same each)))
+-- at each number of levels, and open or not as it is
+pub own-statement : (levels : ℕ) (s : Stmt) (w : Bool) (ts : Toks) → (stmt_at levels).full (unnamed_stmt s) w ts
+    → (stmt_at levels).full (unnamed_stmt s) w (statement_tokens s)
+own-statement levels s w ts h =
+    subst (λ (us : Toks). (stmt_at levels).full (unnamed_stmt s) w us) (statement-unnamed s)
+    (own-spell (stmt-written {P = λ t. Unit {0}} levels 0) (unnamed_stmt s) w ts h)
 
-pub statement_reads_back : (x : Stmt) → StatementReadsBack x (statement_listing x)
-statement_reads_back x d source ts l h =
-    let lexes : Lexes (statement_listing x) ts =
-    statement-lexes x ts (stmt-tokens d 0 (unnamed_stmt x) ts h ∙ ((stmt-tokens-unnamed x).laid 0).same) (lexes-spelt [] source ts l) in
+statement-spelt : (levels : ℕ) (s : Stmt) → HasStatementSource levels s → AllByRecursion IsSpelt (statement_tokens s)
+statement-spelt levels s h =
+    subst (λ (ts : Toks). AllByRecursion IsSpelt ts) (statement-unnamed s)
+    (own-among (stmt-written levels 0) (unnamed_stmt s) h.flag h.tokens h.derives
+    (lexes-spelt [] h.source h.tokens h.lexes))
+
+pub statement_reads_back : (s : Stmt) → StatementReadsBack s (statement_listing s)
+statement_reads_back s levels h =
+    let lexes : Lexes (statement_listing s) (statement_tokens s) =
+    spaced-lexes (statement_listing s) (statement_tokens s) (statement-spaced s (statement-spelt levels s h)) in
+    let derives = own-statement levels s h.flag h.tokens h.derives in
     record {
       lexes = lexes;
-      derives = h;
-      only = λ us other m e. statement-one d ts other (unnamed_stmt x) (subst (λ (vs : Toks). stmt_at d other tt vs) (Lexes-one (statement_listing x) us ts m lexes) e) h;
+      derives = derives;
+      only = λ us other w m e.
+          one-statement levels (statement_tokens s) other (unnamed_stmt s) w h.flag
+          (subst (λ (ts : Toks). (stmt_at levels).full other w ts)
+          (Lexes-one (statement_listing s) us (statement_tokens s) m lexes) e) derives;
     }
-
-pub ok_statement_reads_back : (r : Result (List ℕ) NoMemory) (x : Stmt) → IfOk r (λ text. text ≡ statement_listing x) → IfOk r (λ text. StatementReadsBack x text)
-ok_statement_reads_back (Ok text) x is = subst (λ (t : List ℕ). StatementReadsBack x t) (sym is) (statement_reads_back x)
-ok_statement_reads_back (Err e) x is = tt

@@ -1,4 +1,2 @@
-pub mod Calls
-pub mod Levels
-pub mod StmtWholes
-pub mod Wholes
+pub mod Examples
+pub mod Readings

@@ -1,2 +1,2 @@
-pub mod NestsStmt
-pub mod Whole
+pub mod Headings
+pub mod Named

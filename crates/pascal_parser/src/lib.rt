@@ -1,13 +1,14 @@
-//! Reads all the tokens of a text as a program, or as one statement: the tree that derives them, or that there is none.
+//! Reads tokens as the tree of a program, or of a part of one.
 //!
-//! Statements, declarations and blocks are read here. The expressions in them, and the tokens that are left, are those of
-//! expression_parser.
+//! Each call reads all the tokens, within 64 levels, and names the items from 1 on in the order of the text. It answers
+//! the one tree that the tokens spell, or their fault (`IsReading` in token_reader, over the forms of pascal_tree).
 #![tactic(auto)]
 
-mod blocks;
-mod fault;
-mod reader;
+mod decls;
+mod programs;
 mod stmts;
 
-pub use fault::ParseFault;
-pub use reader::{parse_program, parse_statement};
+pub use decls::{parse_declaration, parse_heading};
+pub use programs::{parse_program, parse_routine};
+pub use stmts::{parse_header, parse_statement};
+pub use token_reader::ParseFault;

@@ -1,250 +1,89 @@
-//! Statements. The rules take the reader of the inner statements as a parameter.
-ghost use Rattle.std.specs.Prelude.{◌≡◌};
-ghost use Rattle.pascal_tree.specs.Classes.{comma_class, semicolon_class};
-ghost use Rattle.grammar_laws.specs.Parsers.{Reads, separated, behind};
-ghost use Rattle.grammar_laws.specs.Reading.{inside};
-ghost use Rattle.grammar_laws.specs.StmtReading as spec;
-ghost use Rattle.pascal_parser.specs.NestsStmt.{NestsStmt};
+//! All the tokens as a statement, or as the header of one.
+ghost use Rattle.std.specs.Prelude.{◌≡◌, ◌≤◌, length};
+ghost use Rattle.pascal_tree.specs.declared.levels.TheConstants.{LEVELS};
+ghost use Rattle.pascal_tree.specs.Statements.{stmt_at, header_at};
+ghost use Rattle.statement_parser.specs.Readers.{stmt_in, header_in};
+ghost use Rattle.pascal_parser.specs.Named.{named_stmt, named_header};
+ghost use Rattle.token_reader.specs.Answers.{Answers, IsReading, Makes, kinds};
+ghost use Rattle.token_reader.specs.Faults.{read_whole};
+ghost use Rattle.token_reader.specs.Readers.{Reads};
 
-use dice_base::{Name, Text};
-use expression_parser::classes::{
-    BECOMES, BEGIN, CLOSE, COLON, COMMA, END, IDENT, OPEN, SEMICOLON,
-};
-use expression_parser::{Cursor, access_parts, expr, inner_expr};
-use grammar_laws::Stop;
-use pascal_tree::{Access, AccessPart, Arg, Expr, Stmt, StmtKind};
-use sqlite_items::Items;
+use crate::ParseFault;
+use dice_base::{Name, Token};
+use pascal_tree::{Header, LEVELS, Stmt};
+use sqlite_items::Boxed;
+use statement_parser::{header, statement};
 use std::alloc::Global;
+use token_reader::{Cursor, Stop, read_all};
+use tree_names::number_stmt;
 
-#[tactic(auto, unfolding(grammar_laws::specs::StmtReading::width))]
-fn width(alloc: Global, tokens: &mut Cursor<'_>, depth: usize) -> Result<Option<Expr>, Stop>
-    ensures { Reads (spec.width (inside depth) tokens.old) result tokens.new }
-{
-    match tokens.class() {
-        COLON => {
-            tokens.skip();
-            Ok(Some(inner_expr(alloc, tokens, depth)?))
-        }
-        _ => Ok(None),
-    }
-}
-
-#[tactic(auto, unfolding(grammar_laws::specs::StmtReading::arg))]
-fn arg(alloc: Global, tokens: &mut Cursor<'_>, depth: usize) -> Result<Arg, Stop>
-    ensures { Reads (spec.arg (inside depth) tokens.old) result tokens.new }
-{
-    let value = inner_expr(alloc, tokens, depth)?;
-    let width = width(alloc, tokens, depth)?;
-    Ok(Arg { value, width })
-}
-
-// The argument behind a comma, if one comes next.
-#[tactic(auto, unfolding(grammar_laws::specs::Parsers::behind))]
-fn next_arg(alloc: Global, tokens: &mut Cursor<'_>, depth: usize) -> Result<Option<Arg>, Stop>
-    ensures { Reads (behind comma_class (spec.arg (inside depth)) tokens.old) result tokens.new }
-{
-    match tokens.class() {
-        COMMA => {
-            tokens.skip();
-            Ok(Some(arg(alloc, tokens, depth)?))
-        }
-        _ => Ok(None),
-    }
-}
-
-#[tactic(auto, using(expression_parser::proofs::Turns::many_step, expression_parser::proofs::Turns::many_stop), unfolding(grammar_laws::specs::Parsers::separated))]
-fn arg_list(alloc: Global, tokens: &mut Cursor<'_>, depth: usize) -> Result<Items<Arg>, Stop>
-    ensures { Reads (separated comma_class (spec.arg (inside depth)) tokens.old) result tokens.new }
-{
-    let mut found = Items::new(alloc);
-    found.push(arg(alloc, tokens, depth)?)?;
-    for _turn in 0..tokens.len() {
-        match next_arg(alloc, tokens, depth)? {
-            Some(x) => found.push(x)?,
-            None => return Ok(found),
-        }
-    }
-    Ok(found)
-}
-
-#[tactic(auto, unfolding(grammar_laws::specs::StmtReading::args_in))]
-fn args_in(alloc: Global, tokens: &mut Cursor<'_>, depth: usize) -> Result<Items<Arg>, Stop>
-    ensures { Reads (spec.args_in (inside depth) tokens.old) result tokens.new }
-{
-    let found = arg_list(alloc, tokens, depth)?;
-    tokens.expect(CLOSE)?;
-    Ok(found)
-}
-
-#[tactic(auto, unfolding(grammar_laws::specs::StmtReading::args))]
-fn args(alloc: Global, tokens: &mut Cursor<'_>, depth: usize) -> Result<Items<Arg>, Stop>
-    ensures { Reads (spec.args (inside depth) tokens.old) result tokens.new }
-{
-    match tokens.class() {
-        OPEN => {
-            tokens.skip();
-            args_in(alloc, tokens, depth)
-        }
-        _ => Ok(Items::new(alloc)),
-    }
-}
-
-#[tactic(auto, using(crate::proofs::Calls::call_none, crate::proofs::Calls::call_some))]
-fn call(
+fn boxed_statement(
     alloc: Global,
     tokens: &mut Cursor<'_>,
     depth: usize,
-    ident: Text,
-    parts: Items<AccessPart>,
-) -> Result<StmtKind, Stop>
-    ensures { Reads (spec.call (inside depth) ident parts tokens.old) result tokens.new }
+) -> Result<Boxed<Stmt>, Stop>
+    ensures { Reads (stmt_in depth tokens.old) result tokens.new }
 {
-    if parts.len() > 0 {
-        return Err(tokens.refuse());
-    }
-    let args = args(alloc, tokens, depth)?;
-    Ok(StmtKind::Call(ident, args))
+    let stmt = statement(alloc, tokens, depth)?;
+    Ok(Boxed::new(alloc, stmt)?)
 }
 
-#[tactic(auto, unfolding(grammar_laws::specs::StmtReading::assign))]
-fn assign(
-    alloc: Global,
-    tokens: &mut Cursor<'_>,
-    depth: usize,
-    ident: Text,
-    parts: Items<AccessPart>,
-) -> Result<StmtKind, Stop>
-    ensures { Reads (spec.assign (inside depth) ident parts tokens.old) result tokens.new }
+fn read_statement(alloc: Global, tokens: &[Token]) -> Result<Boxed<Stmt>, ParseFault>
+    requires { length tokens.now ≤ 65536 }
+    ensures { Answers (read_whole stmt_in LEVELS (kinds tokens.now)) result }
 {
-    let value = expr(alloc, tokens, depth)?;
-    Ok(StmtKind::Assign(Access { ident, parts }, value))
+    read_all(alloc, tokens, LEVELS, boxed_statement)
 }
 
-#[tactic(auto, unfolding(grammar_laws::specs::StmtReading::named))]
-fn by_ident(alloc: Global, tokens: &mut Cursor<'_>, depth: usize) -> Result<StmtKind, Stop>
-    ensures { Reads (spec.named (inside depth) tokens.old) result tokens.new }
+fn name_statement(alloc: Global, read: Result<Boxed<Stmt>, ParseFault>) -> Result<Stmt, ParseFault>
+    ensures { Makes named_stmt read result }
 {
-    let ident = tokens.ident(alloc)?;
-    let parts = access_parts(alloc, tokens, depth)?;
-    match tokens.class() {
-        BECOMES => {
-            tokens.skip();
-            assign(alloc, tokens, depth, ident, parts)
-        }
-        _ => call(alloc, tokens, depth, ident, parts),
-    }
+    let tree = read?;
+    let (stmt, _) = number_stmt(alloc, tree.get(), 1)?;
+    Ok(stmt)
 }
 
-/// The rules over a reader of the statements one level further in.
-#[derive(Clone, Copy)]
-pub struct Statements<F> {
-    alloc: Global,
-    stmt: F,
-}
-
-impl<F: Fn(Global, &mut Cursor<'_>, usize) -> Result<Stmt, Stop>> Statements<F> {
-    #[tactic(auto, using(crate::proofs::Levels::stmt_none, crate::proofs::Levels::stmt_some))]
-    fn inner(&self, tokens: &mut Cursor<'_>, depth: usize) -> Result<Stmt, Stop>
-        requires { NestsStmt depth (F.pre self.now.stmt) (F.post self.now.stmt) }
-        ensures { Reads (spec.stmt_in depth tokens.old) result tokens.new }
-    {
-        if depth == 0 {
-            return Err(tokens.too_deep());
-        }
-        (self.stmt)(self.alloc, tokens, depth - 1)
-    }
-
-    // The statement behind a semicolon, if one comes next.
-    #[tactic(auto, unfolding(grammar_laws::specs::Parsers::behind))]
-    fn next_stmt(&self, tokens: &mut Cursor<'_>, depth: usize) -> Result<Option<Stmt>, Stop>
-        requires { NestsStmt depth (F.pre self.now.stmt) (F.post self.now.stmt) }
-        ensures { Reads (behind semicolon_class (spec.stmt_in depth) tokens.old) result tokens.new }
-    {
-        match tokens.class() {
-            SEMICOLON => {
-                tokens.skip();
-                Ok(Some(self.inner(tokens, depth)?))
-            }
-            _ => Ok(None),
-        }
-    }
-
-    #[tactic(auto, using(expression_parser::proofs::Turns::many_step, expression_parser::proofs::Turns::many_stop), unfolding(grammar_laws::specs::Parsers::separated))]
-    fn sequence(&self, tokens: &mut Cursor<'_>, depth: usize) -> Result<Items<Stmt>, Stop>
-        requires { NestsStmt depth (F.pre self.now.stmt) (F.post self.now.stmt) }
-        ensures { Reads (separated semicolon_class (spec.stmt_in depth) tokens.old) result tokens.new }
-    {
-        let mut found = Items::new(self.alloc);
-        found.push(self.inner(tokens, depth)?)?;
-        for _turn in 0..tokens.len() {
-            match self.next_stmt(tokens, depth)? {
-                Some(x) => found.push(x)?,
-                None => return Ok(found),
-            }
-        }
-        Ok(found)
-    }
-
-    #[tactic(auto, unfolding(grammar_laws::specs::StmtReading::compound))]
-    fn compound(&self, tokens: &mut Cursor<'_>, depth: usize) -> Result<StmtKind, Stop>
-        requires { NestsStmt depth (F.pre self.now.stmt) (F.post self.now.stmt) }
-        ensures { Reads (spec.compound (spec.stmt_in depth) tokens.old) result tokens.new }
-    {
-        let found = self.sequence(tokens, depth)?;
-        tokens.expect(END)?;
-        Ok(StmtKind::Compound(found))
-    }
-
-    #[tactic(auto, unfolding(grammar_laws::specs::StmtReading::kind))]
-    fn kind(&self, tokens: &mut Cursor<'_>, depth: usize) -> Result<StmtKind, Stop>
-        requires { NestsStmt depth (F.pre self.now.stmt) (F.post self.now.stmt) }
-        ensures { Reads (spec.kind (inside depth) (spec.stmt_in depth) tokens.old) result tokens.new }
-    {
-        match tokens.class() {
-            BEGIN => {
-                tokens.skip();
-                self.compound(tokens, depth)
-            }
-            IDENT => by_ident(self.alloc, tokens, depth),
-            _ => Ok(StmtKind::Empty),
-        }
-    }
-
-    #[tactic(auto, unfolding(grammar_laws::specs::StmtReading::statement))]
-    fn whole(&self, tokens: &mut Cursor<'_>, depth: usize) -> Result<Stmt, Stop>
-        requires { NestsStmt depth (F.pre self.now.stmt) (F.post self.now.stmt) }
-        ensures { Reads (spec.statement (inside depth) (spec.stmt_in depth) tokens.old) result tokens.new }
-    {
-        let kind = self.kind(tokens, depth)?;
-        Ok(Stmt {
-            name: Name(0),
-            label: None,
-            kind,
-        })
-    }
-}
-
-/// A statement in which this many levels may nest.
-pub fn stmt(alloc: Global, tokens: &mut Cursor<'_>, depth: usize) -> Result<Stmt, Stop>
-    ensures { Reads (spec.statement (inside depth) (spec.stmt_in depth) tokens.old) result tokens.new }
+/// The statement that the tokens are (ISO 7185:1990, 6.8), itself at level 1.
+#[tactic(auto, using(crate::proofs::Readings::stmt_reading))]
+pub fn parse_statement(alloc: Global, tokens: &[Token]) -> Result<Stmt, ParseFault>
+    requires { length tokens.now ≤ 65536 }
+    ensures { IsReading stmt_at LEVELS named_stmt (kinds tokens.now) result }
 {
-    Statements { alloc, stmt }.whole(tokens, depth)
+    name_statement(alloc, read_statement(alloc, tokens))
 }
 
-/// A statement of at most this many levels.
-#[tactic(auto, using(crate::proofs::Levels::stmt_none, crate::proofs::Levels::stmt_some))]
-pub fn stmt_within(alloc: Global, tokens: &mut Cursor<'_>, levels: usize) -> Result<Stmt, Stop>
-    ensures { Reads (spec.stmt_in levels tokens.old) result tokens.new }
+fn header_within(alloc: Global, tokens: &mut Cursor<'_>, depth: usize) -> Result<Stmt, Stop>
+    ensures { Reads (header_in depth tokens.old) result tokens.new }
 {
-    if levels == 0 {
-        return Err(tokens.too_deep());
-    }
-    stmt(alloc, tokens, levels - 1)
+    header(alloc, tokens, depth)
 }
 
-/// What stands behind `begin`, up to its `end`, with statements in which this many levels may nest.
-pub fn compound(alloc: Global, tokens: &mut Cursor<'_>, depth: usize) -> Result<StmtKind, Stop>
-    ensures { Reads (spec.compound (spec.stmt_in depth) tokens.old) result tokens.new }
+fn read_header(alloc: Global, tokens: &[Token]) -> Result<Stmt, ParseFault>
+    requires { length tokens.now ≤ 65536 }
+    ensures { Answers (read_whole header_in LEVELS (kinds tokens.now)) result }
 {
-    Statements { alloc, stmt }.compound(tokens, depth)
+    read_all(alloc, tokens, LEVELS, header_within)
+}
+
+fn name_header(read: Result<Stmt, ParseFault>) -> Result<Header, ParseFault>
+    ensures { Makes named_header read result }
+{
+    let stmt = read?;
+    Ok(Header {
+        stmt: Stmt {
+            name: Name(1),
+            label: stmt.label,
+            kind: stmt.kind,
+        },
+    })
+}
+
+/// The statement that the tokens are, in which each substatement is written `#`, and the statements of a `repeat` as
+/// one `#`.
+#[tactic(auto, using(crate::proofs::Readings::header_reading))]
+pub fn parse_header(alloc: Global, tokens: &[Token]) -> Result<Header, ParseFault>
+    requires { length tokens.now ≤ 65536 }
+    ensures { IsReading header_at LEVELS named_header (kinds tokens.now) result }
+{
+    name_header(read_header(alloc, tokens))
 }

@@ -2,7 +2,7 @@
 use Rattle.std.proofs.Common.{◌≡◌, ℕ, ◌<◌, List, [], ◌∷◌, ◌++◌, map, length, refl, ap, append_assoc, arith}
 use Rattle.pascal_tree.specs.declared.decl.Block.{Block, out-Block}
 use Rattle.pascal_tree.specs.declared.decl.Block.TheFolds.{fold_out-Block}
-use Rattle.pascal_tree.specs.Tokens.{Toks}
+use Rattle.dice_base.specs.Tokens.{Toks}
 use Rattle.dice_base.specs.Symbols.{open_sign, close_sign, comma_sign}
 use Rattle.pascal_tree.specs.ExprTokens.{in_parens}
 use Rattle.pascal_tree.specs.DeclTokens.{ident_tokens, idents_tokens}

@@ -2,7 +2,7 @@
 use Rattle.std.proofs.Common.{◌≡◌, ℕ, Bool, List, [], ◌∷◌, ◌++◌, Option, Some, None, refl, sym, ap, append_assoc, append-nil}
 use Rattle.dice_base.specs.declared.name.Name.{Name}
 use Rattle.dice_base.specs.declared.token.TokenKind.{TokenKind}
-use Rattle.pascal_tree.specs.Tokens.{Toks}
+use Rattle.dice_base.specs.Tokens.{Toks}
 use Rattle.pascal_print.specs.declared.event.Line.{Line}
 use Rattle.pascal_print.specs.Listing.{Rest, begins, on_line, text_of_line, text_of_lines}
 use Rattle.pascal_print.specs.Layout.{going}

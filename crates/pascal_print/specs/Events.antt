@@ -13,7 +13,7 @@ use Rattle.pascal_tree.specs.declared.decl.Decl.{Decl}
 use Rattle.pascal_tree.specs.declared.decl.Block.{Block, Block-F, fold-Block}
 use Rattle.pascal_tree.specs.declared.decl.Routine.{Routine, Routine-F, fold-Routine}
 use Rattle.pascal_tree.specs.declared.program.Tree.{Tree}
-use Rattle.pascal_tree.specs.Tokens.{Toks}
+use Rattle.dice_base.specs.Tokens.{Toks}
 use Rattle.pascal_tree.specs.Joined.{flat}
 use Rattle.dice_base.specs.Symbols.{end_word, of_word, var_word, comma_sign, period_sign, semicolon_sign, colon_sign, begin_word, case_word, const_word, do_word, downto_word, else_word, for_word, goto_word, if_word, label_word, program_word, repeat_word, then_word, to_word, type_word, until_word, while_word, with_word, becomes_sign}
 use Rattle.pascal_tree.specs.ExprTokens.{expr_tokens, access_tokens, accesses_tokens, args_tokens, in_parens}

@@ -9,7 +9,7 @@ use Rattle.dice_base.specs.declared.token.TokenKind.TheVariants.{Sign}
 use Rattle.dice_base.specs.declared.symbols.signs.TheConstants as signs
 use Rattle.pascal_tree.specs.declared.stmt.Stmt.{Stmt}
 use Rattle.pascal_tree.specs.declared.program.Tree.{Tree}
-use Rattle.pascal_tree.specs.Tokens.{Toks}
+use Rattle.dice_base.specs.Tokens.{Toks}
 use Rattle.tree_text.specs.Spelling.{spelling_of}
 use Rattle.pascal_print.specs.declared.event.Event.{Event}
 use Rattle.pascal_print.specs.declared.event.Event.TheVariants.{Item, Part, Back, Token}

@@ -11,7 +11,7 @@ use Rattle.pascal_tree.specs.declared.decl.DeclKind.{DeclKind}
 use Rattle.pascal_tree.specs.declared.decl.DeclKind.TheVariants as decl
 use Rattle.pascal_tree.specs.declared.decl.Section.{Section}
 use Rattle.pascal_tree.specs.declared.decl.Heading.{Heading}
-use Rattle.pascal_tree.specs.Tokens.{Toks}
+use Rattle.dice_base.specs.Tokens.{Toks}
 use Rattle.pascal_tree.specs.Joined.{join}
 use Rattle.dice_base.specs.Symbols.{array_word, end_word, function_word, of_word, packed_word, procedure_word, record_word, set_word, var_word, equal_sign, open_sign, close_sign, semicolon_sign, colon_sign, range_sign, arrow_sign}
 use Rattle.pascal_tree.specs.ExprTokens.{prefix_tokens, comma_list, in_brackets, in_parens}

@@ -22,7 +22,7 @@ use Rattle.pascal_tree.specs.declared.expr.SetMember.{SetMember, SetMember-F, fo
 use Rattle.pascal_tree.specs.declared.expr.Arg.{Arg, Arg-F, fold-Arg}
 use Rattle.pascal_tree.specs.declared.expr.Access.{Access, Access-F, fold-Access}
 use Rattle.pascal_tree.specs.declared.expr.AccessPart.{AccessPart, AccessPart-F, fold-AccessPart}
-use Rattle.pascal_tree.specs.Tokens.{Toks}
+use Rattle.dice_base.specs.Tokens.{Toks}
 use Rattle.pascal_tree.specs.Joined.{flat, join, optional_part, optional_part_after}
 use Rattle.dice_base.specs.Symbols.{and_word, div_word, in_word, mod_word, nil_word, not_word, or_word, plus_sign, minus_sign, times_sign, equal_sign, not_equal_sign, less_sign, greater_sign, at_most_sign, at_least_sign, open_sign, close_sign, left_sign, right_sign, period_sign, comma_sign, colon_sign, range_sign, arrow_sign}
 

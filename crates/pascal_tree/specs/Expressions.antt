@@ -1,6 +1,8 @@
--- The grammar of expressions (ISO 7185:1990, 6.7.1) and variable accesses (6.5.1), without strings, sets, `nil` and
--- functions.
-use Rattle.std.specs.Prelude.{ℕ, zero, suc, Bool, true, false, List, [], ◌∷◌, Option}
+-- The grammar of variable accesses (ISO 7185:1990, 6.5), of expressions (6.7) and of arguments (6.7.3, 6.9.3.1).
+use Rattle.std.specs.Prelude.{ℕ, zero, suc, false, List, [], ◌∷◌, Option, Some, None}
+use Rattle.dice_base.specs.Tokens.{operator_of}
+use Rattle.dice_base.specs.Forms.{Form, never, just, one, token, chain, either, operator_or, rows, list_of, named, numeral, quoted}
+use Rattle.pascal_tree.specs.Classes.{and_class, div_class, in_class, mod_class, nil_class, not_class, or_class, plus_class, minus_class, times_class, equal_class, not_equal_class, less_class, greater_class, at_most_class, at_least_class, open_class, close_class, left_class, right_class, period_class, comma_class, colon_class, range_class, arrow_class}
 use Rattle.pascal_tree.specs.declared.expr.Prefix.{Prefix}
 use Rattle.pascal_tree.specs.declared.expr.Prefix.TheVariants as prefix
 use Rattle.pascal_tree.specs.declared.expr.AddOp.{AddOp}
@@ -17,12 +19,11 @@ use Rattle.pascal_tree.specs.declared.expr.Term.{Term, roll-Term}
 use Rattle.pascal_tree.specs.declared.expr.MulPart.{MulPart, roll-MulPart}
 use Rattle.pascal_tree.specs.declared.expr.Factor.{Factor}
 use Rattle.pascal_tree.specs.declared.expr.Factor.TheVariants as f
+use Rattle.pascal_tree.specs.declared.expr.SetMember.{SetMember, roll-SetMember}
+use Rattle.pascal_tree.specs.declared.expr.Arg.{Arg, roll-Arg}
 use Rattle.pascal_tree.specs.declared.expr.Access.{Access, roll-Access}
 use Rattle.pascal_tree.specs.declared.expr.AccessPart.{AccessPart}
 use Rattle.pascal_tree.specs.declared.expr.AccessPart.TheVariants as part
-use Rattle.pascal_tree.specs.Tokens.{Toks}
-use Rattle.pascal_tree.specs.Classes.{and_class, div_class, in_class, mod_class, not_class, or_class, plus_class, minus_class, times_class, equal_class, not_equal_class, less_class, greater_class, at_most_class, at_least_class, open_class, close_class, left_class, right_class, period_class, comma_class, arrow_class}
-use Rattle.pascal_tree.specs.Forms.{Form, never, just, token, chain, either, rows, opt, list_of, operator, behind_op, named, numeral}
 
 -- ---- operators (6.7.2.1), each with the class of its token
 
@@ -40,15 +41,9 @@ rel_ops =
     ∷ (at_most_class, rel.LessEqual) ∷ (at_least_class, rel.GreaterEqual)
     ∷ (in_class, rel.Member) ∷ []
 
--- the operator of a class, if it is one
-abbrev pub mul_op : ℕ → Option MulOp
-mul_op = operator mul_ops
-
-abbrev pub add_op : ℕ → Option AddOp
-add_op = operator add_ops
-
-abbrev pub rel_op : ℕ → Option RelOp
-rel_op = operator rel_ops
+-- the signs before a sum or a constant
+abbrev pub signs : List (ℕ × Prefix)
+signs = (plus_class, prefix.Plus) ∷ (minus_class, prefix.Minus) ∷ []
 
 -- ---- trees of their parts
 
@@ -64,6 +59,12 @@ make_rel op x = roll-RelPart (record { op = op; right = x })
 abbrev pub make_access : List ℕ → List AccessPart → Access
 make_access x parts = roll-Access (record { ident = x; parts = parts })
 
+abbrev pub make_member : Expr → Option Expr → SetMember
+make_member first last = roll-SetMember (record { first = first; last = last })
+
+abbrev pub make_arg : Expr → Option Expr → Arg
+make_arg e width = roll-Arg (record { value = e; width = width })
+
 abbrev pub make_term : Factor → List MulPart → Term
 make_term x rest = roll-Term (record { first = x; rest = rest })
 
@@ -73,77 +74,90 @@ make_sum p x rest = roll-SumExpr (record { prefix = p; first = x; rest = rest })
 abbrev pub make_expr : SumExpr → Option RelPart → Expr
 make_expr x rest = roll-Expr (record { first = x; rest = rest })
 
--- ---- accesses, where E is an expression one level further in
+-- ---- accesses, arguments, sets and factors, where E and N are an expression and an operand of `not` one level further in
 
--- `[` has been derived: indices and `]` (6.5.3.2)
-abbrev pub index_form : Form Expr → Form AccessPart
-index_form E =
-    chain (list_of comma_class E) (λ found _. token right_class (just (part.Index found) tt))
+module _ (E : Form Expr) where
+  -- one step to a component: indices (6.5.3.2), a field (6.5.3.3), or what a pointer identifies (6.5.4)
+  abbrev pub part_form : Form AccessPart
+  part_form =
+      either (token left_class (chain (list_of comma_class E) (λ found _.
+      token right_class (just (part.Index found) false))))
+      (either (token period_class (chain named (λ x _. just (part.Field x) false)))
+      (either (token arrow_class (just part.Dereference false)) never))
 
--- the field after a period (6.5.3.3)
-abbrev pub field_form : Form AccessPart
-field_form = chain named (λ x _. just (part.Field x) tt)
+  -- an identifier and its steps (6.5.1)
+  abbrev pub access_form : Form Access
+  access_form = chain named (λ x _. chain (rows part_form) (λ parts _. just (make_access x parts) false))
 
--- after an arrow nothing follows (6.5.4)
-abbrev pub deref_form : Form AccessPart
-deref_form = just part.Dereference tt
+  -- the width after a colon, as in the parameters of `write` (6.9.3.1)
+  abbrev pub width_form : Form (Option Expr)
+  width_form = either (token colon_class (chain E (λ e _. just (Some e) false))) (just None false)
 
--- one step to a component
-abbrev pub part_form : Form Expr → AccessPart → Toks → Type 0
-part_form E a u =
-    either (token left_class (index_form E))
-    (either (token period_class field_form) (either (token arrow_class deref_form) never)) a tt u
+  abbrev pub arg_form : Form Arg
+  arg_form = chain E (λ e _. chain width_form (λ width _. just (make_arg e width) false))
 
--- an identifier and its steps (6.5.1)
-abbrev pub access_form : Form Expr → Form Access
-access_form E =
-    chain named (λ x _. chain (rows (part_form E)) (λ parts _. just (make_access x parts) tt))
+  -- what follows `(` of a parameter list (6.7.3)
+  abbrev pub args_in : Form (List Arg)
+  args_in = chain (list_of comma_class arg_form) (λ args _. token close_class (just args false))
 
--- ---- factors, where E and N are an expression and an operand of `not` one level further in
+  -- a parameter list, or none
+  abbrev pub args_form : Form (List Arg)
+  args_form = either (token open_class args_in) (just [] false)
 
-abbrev pub number_form : Form Factor
-number_form = chain numeral (λ n _. just (f.Number n) tt)
+  -- a member, or the last one of a range (6.7.1)
+  abbrev pub last_form : Form (Option Expr)
+  last_form = either (token range_class (chain E (λ e _. just (Some e) false))) (just None false)
 
-abbrev pub variable_form : Form Expr → Form Factor
-variable_form E = chain (access_form E) (λ a _. just (f.Access a) tt)
+  abbrev pub member_form : Form SetMember
+  member_form = chain E (λ first _. chain last_form (λ last _. just (make_member first last) false))
 
--- what follows `(`, and what follows `not`
-abbrev pub paren_in : Form Expr → Form Factor
-paren_in E = chain E (λ e _. token close_class (just (f.Paren e) tt))
+  -- what follows `[` of a set constructor (6.7.1)
+  abbrev pub members_in : Form Factor
+  members_in =
+      either (token right_class (just (f.Members []) false))
+      (chain (list_of comma_class member_form) (λ found _. token right_class (just (f.Members found) false)))
 
-abbrev pub not_in : Form Factor → Form Factor
-not_in N = chain N (λ x _. just (f.Not x) tt)
-
-abbrev pub factor_form : Form Expr → Form Factor → Form Factor
-factor_form E N =
-    either number_form (either (variable_form E)
-    (either (token open_class (paren_in E)) (either (token not_class (not_in N)) never)))
+  module _ (N : Form Factor) where
+    abbrev pub factor_form : Form Factor
+    factor_form =
+        either (chain numeral (λ n _. just (f.Number n) false))
+        (either (chain quoted (λ x _. just (f.Str x) false))
+        (either (token nil_class (just f.Nil false))
+        (either (either (chain named (λ x _. token open_class (chain args_in (λ args _. just (f.Call x args) false))))
+        (chain access_form (λ a _. just (f.Access a) false)))
+        (either (token left_class members_in)
+        (either (token open_class (chain E (λ e _. token close_class (just (f.Paren e) false))))
+        (either (token not_class (chain N (λ x _. just (f.Not x) false))) never))))))
 
 -- ---- terms, sums and expressions over factors
 
-abbrev pub term_form : Form Factor → Form Term
-term_form factor =
-    chain factor (λ x _. chain (rows (behind_op mul_op make_mul (λ f u. factor f tt u)))
-    (λ rest _. just (make_term x rest) tt))
+abbrev pub sign_form : Form Prefix
+sign_form = operator_or signs prefix.Without
 
--- the flag says that a sign stands there
-abbrev pub sign_form : Prefix → Bool → Toks → Type 0
-sign_form =
-    either (token plus_class (just prefix.Plus true))
-    (either (token minus_class (just prefix.Minus true)) (just prefix.Without false))
+module _ (factor : Form Factor) where
+  abbrev pub mul_form : Form MulPart
+  mul_form = chain (one (operator_of mul_ops)) (λ o _. chain factor (λ x _. just (make_mul o x) false))
 
-abbrev pub sum_form : Form Factor → Form SumExpr
-sum_form factor =
-    chain sign_form (λ p _. chain (term_form factor) (λ x _.
-    chain (rows (behind_op add_op make_add (λ t u. term_form factor t tt u)))
-    (λ rest _. just (make_sum p x rest) tt)))
+  abbrev pub term_form : Form Term
+  term_form = chain factor (λ x _. chain (rows mul_form) (λ rest _. just (make_term x rest) false))
 
-abbrev pub expr_form : Form Factor → Form Expr
-expr_form factor =
-    chain (sum_form factor) (λ x _. chain (opt (behind_op rel_op make_rel (λ t u. sum_form factor t tt u)))
-    (λ rest _. just (make_expr x rest) tt))
+  abbrev pub add_form : Form AddPart
+  add_form = chain (one (operator_of add_ops)) (λ o _. chain term_form (λ x _. just (make_add o x) false))
 
--- ---- with at most this many levels
+  abbrev pub sum_form : Form SumExpr
+  sum_form =
+      chain sign_form (λ p _. chain term_form (λ x _. chain (rows add_form) (λ rest _.
+      just (make_sum p x rest) false)))
+
+  abbrev pub rel_form : Form (Option RelPart)
+  rel_form =
+      either (chain (one (operator_of rel_ops)) (λ o _. chain sum_form (λ x _. just (Some (make_rel o x)) false)))
+      (just None false)
+
+  abbrev pub expr_form : Form Expr
+  expr_form = chain sum_form (λ x _. chain rel_form (λ rest _. just (make_expr x rest) false))
+
+-- ---- with at most so many levels
 
 unfoldable mutual
   pub expr_at : ℕ → Form Expr

@@ -1,9 +1,10 @@
 pub mod Expressions
-pub mod Forms
+pub mod Declarations
 pub mod Programs
 pub mod Statements
-pub mod Tokens
 pub mod Classes
+pub mod Depth
+pub mod Openness
 pub mod Joined
 pub mod ExprTokens
 pub mod DeclTokens
@@ -11,3 +12,5 @@ pub mod Naming
 pub mod Names
 pub mod Paths
 pub mod Rows
+pub mod Unnamed
+pub mod Sources

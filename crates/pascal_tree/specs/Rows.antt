@@ -14,7 +14,7 @@ use Rattle.pascal_tree.specs.declared.decl.DeclKind.TheVariants as decl
 use Rattle.pascal_tree.specs.declared.decl.Block.{Block, Block-F, fold-Block}
 use Rattle.pascal_tree.specs.declared.decl.Routine.{Routine, Routine-F, out-Routine, fold-Routine}
 use Rattle.pascal_tree.specs.declared.program.Tree.{Tree}
-use Rattle.pascal_tree.specs.Tokens.{Toks}
+use Rattle.dice_base.specs.Tokens.{Toks}
 use Rattle.pascal_tree.specs.Joined.{join}
 use Rattle.pascal_tree.specs.ExprTokens.{expr_tokens, access_tokens, accesses_tokens, args_tokens, in_parens}
 use Rattle.pascal_tree.specs.DeclTokens.{ident_tokens, constants_tokens, decl_tokens, heading_tokens}

@@ -1,6 +1,6 @@
 //! The tree of a Pascal program and its grammar (ISO 7185:1990, clause 6), and exact copies of trees.
 //!
-//! In `specs/`: the grammar, one definition for each production that is built (`Expressions`, `Statements`, `Programs`);
+//! In `specs/`: the grammar, one definition for each production (`Expressions`, `Declarations`, `Statements`, `Programs`);
 //! the tokens of a tree (`ExprTokens`, `DeclTokens`); the names of its items (`Names`, `Naming`), their places (`Paths`),
 //! and their own texts (`Rows`).
 #![tactic(auto)]
@@ -10,6 +10,7 @@ mod decl;
 mod decl_copies;
 mod expr;
 mod expr_copies;
+mod levels;
 mod program;
 mod stmt;
 mod stmt_copies;
@@ -27,6 +28,7 @@ pub use expr::{
     SetMember, SumExpr, Term,
 };
 pub use expr_copies::{copy_access, copy_accesses, copy_arg, copy_args, copy_expr};
+pub use levels::LEVELS;
 pub use program::{Header, Tree};
 pub use stmt::{Arm, Constant, Stmt, StmtKind};
 pub use stmt_copies::{

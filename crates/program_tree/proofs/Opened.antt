@@ -10,7 +10,7 @@ use Rattle.pascal_tree.specs.declared.decl.Decl.{Decl}
 use Rattle.pascal_tree.specs.declared.decl.Block.{Block, out-Block}
 use Rattle.pascal_tree.specs.declared.decl.Routine.{Routine, Routine-F, out-Routine}
 use Rattle.pascal_tree.specs.declared.decl.Block.TheFolds.{map-Routine, fold_out-Routine}
-use Rattle.pascal_tree.specs.Tokens.{Toks}
+use Rattle.dice_base.specs.Tokens.{Toks}
 use Rattle.pascal_tree.specs.Paths.{ItemValue, OfProgram, OfDecl, OfRoutine, OfStmt, kind_parts, arm_body, stmt_children, block_children, any_children, item_children, item_name}
 use Rattle.pascal_tree.specs.Rows.{Row, Rows, hole, label_part, own_kind, arm_text, own_stmt, own_text, rows_from, rows_in_kind, rows_in_arm, rows_in_stmt, stmt_rows, kind_rows, arm_rows, decl_rows, any_rows, rows_in_block, rows_in_routine, block_rows, routine_rows}
 use Rattle.program_tree.proofs.Added.{block_rows-is}

@@ -2,7 +2,7 @@
 use Rattle.std.proofs.Common.{◌≡◌, ◌⊎◌, inl, inr, ℕ, zero, suc, ◌+◌, ◌-◌, List, [], ◌∷◌, ◌++◌, Option, Some, None, Bool, true, false, if◌then◌else◌, Contains, map, take, length, slice_get, option_map, option_and_then, MatchOption, refl, sym, ap, subst, ◌∙◌, length-append, arith}
 use Rattle.dice_base.specs.declared.name.Name.{Name}
 use Rattle.pascal_tree.specs.declared.program.Tree.{Tree}
-use Rattle.pascal_tree.specs.Tokens.{Toks}
+use Rattle.dice_base.specs.Tokens.{Toks}
 use Rattle.pascal_tree.specs.Paths.{ItemValue, OfProgram, item_at, item_children, item_name, tree_at, front, last_place}
 use Rattle.pascal_tree.specs.Rows.{Row, own_text, program_rows}
 use Rattle.program_tree.specs.Found.{HasPath, HasParent, HasNoParent, HasSequence, HasNoSequence, IsPartAt, is_sequence_text}

@@ -4,7 +4,7 @@ use Rattle.std.specs.List.{AllByRecursion}
 use Rattle.std.proofs.lemmas.Bool.Decides.{nat_tests}
 use Rattle.std.proofs.lemmas.List.Elements.{Contains-append_right}
 use Rattle.pascal_tree.specs.declared.program.Tree.{Tree}
-use Rattle.pascal_tree.specs.Tokens.{Toks}
+use Rattle.dice_base.specs.Tokens.{Toks}
 use Rattle.program_tree.specs.declared.item.Item.{Item}
 use Rattle.pascal_tree.specs.Paths.{ItemValue, tree_at, item_name}
 use Rattle.pascal_tree.specs.Rows.{Row, own_text, program_rows}

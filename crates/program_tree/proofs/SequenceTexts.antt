@@ -11,7 +11,7 @@ use Rattle.pascal_tree.specs.declared.decl.Heading.{Heading}
 use Rattle.pascal_tree.specs.declared.decl.Routine.{out-Routine}
 use Rattle.dice_base.specs.Symbols.{begin_word, repeat_word}
 use Rattle.dice_base.specs.declared.token.TokenKind.TheVariants.{Ident}
-use Rattle.pascal_tree.specs.Tokens.{Toks, class_at, class_of}
+use Rattle.dice_base.specs.Tokens.{Toks, class_at, class_of}
 use Rattle.pascal_tree.specs.DeclTokens.{heading_tokens, routine_word}
 use Rattle.pascal_tree.specs.ExprTokens.{access_tokens, in_part, in_factor, in_access, in_adding, in_arg, in_expr, in_multiplying, in_relation, in_member, in_sum, in_term}
 use Rattle.pascal_tree.specs.Paths.{ItemValue, OfProgram, OfDecl, OfRoutine, OfStmt}

@@ -4,7 +4,7 @@ use Rattle.std.specs.List.{AllByRecursion, IsDistinct}
 use Rattle.pascal_tree.specs.declared.program.Tree.{Tree}
 use Rattle.dice_base.specs.declared.token.TokenKind.TheVariants.{Number}
 use Rattle.dice_base.specs.Symbols.{begin_word, repeat_word}
-use Rattle.pascal_tree.specs.Tokens.{Toks, class_at, class_of}
+use Rattle.dice_base.specs.Tokens.{Toks, class_at, class_of}
 use Rattle.pascal_tree.specs.Paths.{ItemValue, tree_at, item_name}
 use Rattle.pascal_tree.specs.Rows.{Row, own_text}
 

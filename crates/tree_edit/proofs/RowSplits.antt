@@ -9,7 +9,7 @@ use Rattle.pascal_tree.specs.declared.stmt.Arm.{Arm}
 use Rattle.pascal_tree.specs.declared.decl.Block.{Block}
 use Rattle.pascal_tree.specs.declared.decl.Routine.{Routine, Routine-F}
 use Rattle.pascal_tree.specs.DeclTokens.{heading_tokens}
-use Rattle.pascal_tree.specs.Tokens.{Toks}
+use Rattle.dice_base.specs.Tokens.{Toks}
 use Rattle.pascal_tree.specs.Paths.{ItemValue, OfProgram, OfDecl, OfRoutine, OfStmt, item_children, item_name, item_at}
 use Rattle.pascal_tree.specs.Rows.{Row, hole, label_part, own_kind, arm_text, own_text, rows_from, stmt_rows}
 use Rattle.program_tree.proofs.Opened.{item_rows, own_row, item_opened}

@@ -1,3 +1,2 @@
-pub mod Depth
 pub mod Edited
 pub mod Place

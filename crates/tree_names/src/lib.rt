@@ -5,4 +5,4 @@ mod counting;
 mod naming;
 
 pub use counting::new_names;
-pub use naming::{name_stmt, number_program};
+pub use naming::{name_stmt, number_program, number_routine, number_stmt};

@@ -157,9 +157,10 @@ fn number_boxed(alloc: Global, stmt: &Stmt, next: u32) -> Result<(Boxed<Stmt>, u
     Ok((stmt, next))
 }
 
+/// A copy of a statement whose items bear the names from this one on, in text order, and the number after the last.
 #[cycle(number_stmt)]
 #[tactic(auto, unfolding(pascal_tree::specs::Naming::stmt_numbering, pascal_tree::specs::Naming::kind_numbering, pascal_tree::specs::Naming::arm_numbering))]
-fn number_stmt(alloc: Global, stmt: &Stmt, next: u32) -> Result<(Stmt, u32), NoMemory>
+pub fn number_stmt(alloc: Global, stmt: &Stmt, next: u32) -> Result<(Stmt, u32), NoMemory>
     ensures { IfOk result (λ r. r ≡ spec.stmt_numbering stmt.now next) }
 {
     let label = stmt.label;
@@ -297,9 +298,14 @@ fn number_block(alloc: Global, block: &Block, next: u32) -> Result<(Block, u32),
     number_ends(alloc, block, next, last, consts, types, vars, routines)
 }
 
+/// A copy of a routine whose items bear the names from this one on, in text order, and the number after the last.
 #[cycle(number_block)]
 #[tactic(auto, unfolding(pascal_tree::specs::Naming::block_numbering, pascal_tree::specs::Naming::routine_numbering))]
-fn number_routine(alloc: Global, routine: &Routine, next: u32) -> Result<(Routine, u32), NoMemory>
+pub fn number_routine(
+    alloc: Global,
+    routine: &Routine,
+    next: u32,
+) -> Result<(Routine, u32), NoMemory>
     ensures { IfOk result (λ r. r ≡ spec.routine_numbering routine.now next) }
 {
     let name = Name(next);

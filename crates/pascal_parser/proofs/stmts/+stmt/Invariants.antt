@@ -1,4 +1,0 @@
-use Rattle.pascal_parser.proofs.stmts.+stmt.Given as goal
-
-abbrev pub decreases-stmt : goal.decreases-stmt
-decreases-stmt l = l.depth

@@ -1,0 +1,10 @@
+pub mod Judge
+pub mod Laws
+pub mod Levels
+pub mod Loops
+pub mod Prefixes
+pub mod Reading
+pub mod Rules
+pub mod Settled
+pub mod Tables
+pub mod Turns
