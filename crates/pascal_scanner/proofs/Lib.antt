@@ -1,5 +1,9 @@
+pub mod Classes
+pub mod Comments
+pub mod Faults
 pub mod Fronts
 pub mod Marks
 pub mod Onward
 pub mod Signs
+pub mod Strings
 pub mod Takes

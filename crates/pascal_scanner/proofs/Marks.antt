@@ -1,128 +1,92 @@
--- What is taken where a mark begins.
-use Rattle.std.proofs.Common.{◌≡◌, ℕ, ◌≤◌, ◌<◌, true, false, not, ◌==◌, List, [], ◌∷◌, ◌++◌, length, get_or, drop, refl, sym, ap, subst, ◌∙◌, arith}
+-- What is taken where a mark begins: signs and `#`.
+use Rattle.std.proofs.Common.{◌≡◌, ℕ, ◌≤◌, ◌<◌, Bool, true, false, ◌==◌, List, [], ◌∷◌, ◌++◌, length, get_or, drop, refl, sym, ap, ◌∙◌, arith, eqb-true}
 use Rattle.dice_base.specs.declared.byte.ByteClass.TheVariants.{Mark}
 use Rattle.dice_base.specs.declared.token.TokenKind.{TokenKind}
 use Rattle.dice_base.specs.declared.token.TokenKind.TheVariants.{Sign, Hole}
-use Rattle.dice_base.specs.Lexemes.{class, sign_of, Lexeme, word, number, sign, hole, opens_comment, Takes}
-use Rattle.pascal_scanner.specs.Longest.{pair_sign, single_sign}
-use Rattle.pascal_scanner.specs.Unread.{IsStuck, HasNoDigit}
-use Rattle.pascal_scanner.proofs.Signs.{some, nothing, sign-mark, sign-no_hole, sign-short, no_sign-nil}
-use Rattle.pascal_scanner.proofs.Takes.{clash, no_gap_at}
+use Rattle.dice_base.specs.Lexemes.{class, Lexeme, hole, opens_comment, opens_string, Takes}
+use Rattle.pascal_scanner.specs.Longest.{spelled_sign, pair_sign, single_sign}
+use Rattle.pascal_scanner.specs.Unread.{IsStuck, HasBadCharacter}
+use Rattle.pascal_scanner.proofs.Signs.{some, nothing, begins_sign, spelled-lexeme, spelled-begins, spelled-mark, spelled-short}
+use Rattle.pascal_scanner.proofs.Classes.{lexeme_front, sign_lexeme, hole_lexeme}
+use Rattle.pascal_scanner.proofs.Comments.{no_gap_at}
 
-two_longest : (c d : ℕ) (cs w r : List ℕ) (u : TokenKind) → class c ≡ Mark → c ∷ d ∷ cs ≡ w ++ r → Lexeme w u → length w ≤ 2
-two_longest c d cs w r u is e (word x xs isx each) = let same : c ≡ x = cc in clash c x _ _ is isx same (λ bad. absurd cc)
-two_longest c d cs w r u is e (number x xs isx each low) = let same : c ≡ x = cc in clash c x _ _ is isx same (λ bad. absurd cc)
-two_longest c d cs w r u is e (sign v k s) = sign-short v k s
-two_longest c d cs w r u is e hole = omega arith
+-- ---- signs of two bytes and of one
 
-two_taken : (c d : ℕ) (cs : List ℕ) (k : ℕ) → sign_of (c ∷ d ∷ []) ≡ some k → opens_comment (c ∷ d ∷ cs) ≡ false → Takes (c ∷ d ∷ cs) (Sign k) cs
+two_taken : (c d : ℕ) (cs : List ℕ) (k : ℕ) → spelled_sign (c ∷ d ∷ []) ≡ some k → opens_comment (c ∷ d ∷ cs) ≡ false → Takes (c ∷ d ∷ cs) (Sign k) cs
 two_taken c d cs k s plain = record {
   lexeme = c ∷ d ∷ [];
   parts = refl;
-  is = sign (c ∷ d ∷ []) k s;
-  longest = λ w r u e l. two_longest c d cs w r u (sign-mark c (d ∷ []) k s) e l;
+  is = spelled-lexeme (c ∷ d ∷ []) k s;
+  longest = longest;
   follows = tt;
   plain = plain;
-}
+} where
+  longest : (w r : List ℕ) (u : TokenKind) → c ∷ d ∷ cs ≡ w ++ r → Lexeme w u → length w ≤ 2
+  longest w r u e l =
+      let f = lexeme_front c (d ∷ cs) w r u e l in
+      let other = sign_lexeme c f.0 u (spelled-mark c (d ∷ []) k s) (spelled-begins c (d ∷ []) k s) f.3 in
+      omega (arith, ap length f.1, spelled-short (c ∷ f.0) other.0 other.1)
 
 -- no two bytes at the front are a sign
 abbrev pub HasNoPair : List ℕ → Type 0
 HasNoPair text = pair_sign text ≡ nothing
 
-one_longest : (c : ℕ) (cs w r : List ℕ) (u : TokenKind) → class c ≡ Mark → HasNoPair (c ∷ cs) → c ∷ cs ≡ w ++ r → Lexeme w u → length w ≤ 1
-one_longest c cs w r u is lone e (word x xs isx each) = let same : c ≡ x = cc in clash c x _ _ is isx same (λ bad. absurd cc)
-one_longest c cs w r u is lone e (number x xs isx each low) = let same : c ≡ x = cc in clash c x _ _ is isx same (λ bad. absurd cc)
-one_longest c cs [] r u is lone e (sign w k s) = omega arith
-one_longest c cs (x ∷ []) r u is lone e (sign w k s) = omega arith
-one_longest c [] (x ∷ y ∷ []) r u is lone e (sign w k s) = let bad : [] ≡ y ∷ r = cc in absurd cc
-one_longest c (d ∷ cs) (x ∷ y ∷ []) r u is lone e (sign w k s) =
-    let first : c ≡ x = cc in
-    let second : d ≡ y = cc in
-    let bad : nothing ≡ some k = sym lone ∙ ap (λ v. sign_of (v ∷ d ∷ [])) first ∙ ap (λ v. sign_of (x ∷ v ∷ [])) second ∙ s in absurd cc
-one_longest c cs (x ∷ y ∷ z ∷ v) r u is lone e (sign w k s) = absurd (omega (arith, sign-short (x ∷ y ∷ z ∷ v) k s))
-one_longest c cs w r u is lone e hole = omega arith
+-- so each lexeme there is of one byte
+alone : (c : ℕ) (cs v r : List ℕ) (k : ℕ) → HasNoPair (c ∷ cs) → cs ≡ v ++ r → spelled_sign (c ∷ v) ≡ some k → v ≡ []
+alone c cs [] r k lone e s = refl
+alone c [] (d ∷ []) r k lone e s = absurd cc
+alone c (b ∷ cs) (d ∷ []) r k lone e s =
+    let same : b ≡ d = cc in
+    let bad : nothing ≡ some k = sym lone ∙ ap (λ (x : ℕ). spelled_sign (c ∷ x ∷ [])) same ∙ s in absurd cc
+alone c cs (d ∷ b ∷ v) r k lone e s = absurd (omega (arith, spelled-short (c ∷ d ∷ b ∷ v) k s))
 
-one_taken : (c : ℕ) (cs : List ℕ) (k : ℕ) → sign_of (c ∷ []) ≡ some k → HasNoPair (c ∷ cs) → opens_comment (c ∷ cs) ≡ false → Takes (c ∷ cs) (Sign k) cs
+one_taken : (c : ℕ) (cs : List ℕ) (k : ℕ) → spelled_sign (c ∷ []) ≡ some k → HasNoPair (c ∷ cs) → opens_comment (c ∷ cs) ≡ false → Takes (c ∷ cs) (Sign k) cs
 one_taken c cs k s lone plain = record {
   lexeme = c ∷ [];
   parts = refl;
-  is = sign (c ∷ []) k s;
-  longest = λ w r u e l. one_longest c cs w r u (sign-mark c [] k s) lone e l;
+  is = spelled-lexeme (c ∷ []) k s;
+  longest = longest;
   follows = tt;
   plain = plain;
-}
+} where
+  longest : (w r : List ℕ) (u : TokenKind) → c ∷ cs ≡ w ++ r → Lexeme w u → length w ≤ 1
+  longest w r u e l =
+      let f = lexeme_front c cs w r u e l in
+      let other = sign_lexeme c f.0 u (spelled-mark c [] k s) (spelled-begins c [] k s) f.3 in
+      omega (arith, ap length f.1, ap length (alone c cs f.0 r other.0 lone f.2 other.1))
 
--- `#` begins no sign
-hole_longest : (cs w r : List ℕ) (u : TokenKind) → 35 ∷ cs ≡ w ++ r → Lexeme w u → length w ≤ 1
-hole_longest cs w r u e (word x xs isx each) = let same : 35 ≡ x = cc in clash 35 x Mark _ refl isx same (λ bad. absurd cc)
-hole_longest cs w r u e (number x xs isx each low) = let same : 35 ≡ x = cc in clash 35 x Mark _ refl isx same (λ bad. absurd cc)
-hole_longest cs [] r u e (sign w k s) = omega arith
-hole_longest cs (x ∷ xs) r u e (sign w k s) =
-    let same : x ≡ 35 = cc in
-    let bad : not (35 == 35) ≡ true = subst (λ (v : ℕ). not (v == 35) ≡ true) same (sign-no_hole x xs k s) in absurd cc
-hole_longest cs w r u e hole = omega arith
+no_mark : (c : ℕ) (cs : List ℕ) (t : TokenKind) (rest : List ℕ) → class c ≡ Mark → begins_sign c ≡ true → HasNoPair (c ∷ cs) → spelled_sign (c ∷ []) ≡ nothing → Takes (c ∷ cs) t rest → ⊥
+no_mark c cs t rest is begins lone none k =
+    let f = lexeme_front c cs k.lexeme rest t k.parts k.is in
+    let other = sign_lexeme c f.0 t is begins f.3 in
+    let one : f.0 ≡ [] = alone c cs f.0 rest other.0 lone f.2 other.1 in
+    let bad : nothing ≡ some other.0 = sym none ∙ ap (λ (v : List ℕ). spelled_sign (c ∷ v)) (sym one) ∙ other.1 in absurd cc
+
+-- ---- `#`
 
 hole_plain : (cs : List ℕ) → opens_comment (35 ∷ cs) ≡ false
 hole_plain [] = refl
 hole_plain (d ∷ cs) = refl
 
-hole_taken : (c : ℕ) (cs : List ℕ) → c ≡ 35 → Takes (c ∷ cs) Hole cs
-hole_taken c cs e = rw e (record {
+hole_taken : (cs : List ℕ) → Takes (35 ∷ cs) Hole cs
+hole_taken cs = record {
   lexeme = 35 ∷ [];
   parts = refl;
   is = hole;
-  longest = λ w r u e l. hole_longest cs w r u e l;
+  longest = longest;
   follows = tt;
   plain = hole_plain cs;
-})
-
-no_mark : (c : ℕ) (cs : List ℕ) (token : TokenKind) (rest : List ℕ) → class c ≡ Mark → (c ≡ 35 → ⊥) → HasNoPair (c ∷ cs) → sign_of (c ∷ []) ≡ nothing → Takes (c ∷ cs) token rest → ⊥
-no_mark c cs token rest is other lone none k = by_lexeme cs k.lexeme token lone k.parts k.is where
-  by_lexeme : (cs w : List ℕ) (t : TokenKind) → HasNoPair (c ∷ cs) → c ∷ cs ≡ w ++ rest → Lexeme w t → ⊥
-  by_lexeme cs w t lone e (word x xs isx each) = let same : c ≡ x = cc in clash c x _ _ is isx same (λ bad. absurd cc)
-  by_lexeme cs w t lone e (number x xs isx each low) = let same : c ≡ x = cc in clash c x _ _ is isx same (λ bad. absurd cc)
-  by_lexeme cs [] t lone e (sign w k s) = no_sign-nil k s
-  by_lexeme cs (x ∷ []) t lone e (sign w k s) =
-      let first : c ≡ x = cc in
-      let bad : nothing ≡ some k = sym none ∙ ap (λ v. sign_of (v ∷ [])) first ∙ s in absurd cc
-  by_lexeme [] (x ∷ y ∷ []) t lone e (sign w k s) = let bad : [] ≡ y ∷ rest = cc in absurd cc
-  by_lexeme (d ∷ cs) (x ∷ y ∷ []) t lone e (sign w k s) =
-      let first : c ≡ x = cc in
-      let second : d ≡ y = cc in
-      let bad : nothing ≡ some k = sym lone ∙ ap (λ v. sign_of (v ∷ d ∷ [])) first ∙ ap (λ v. sign_of (x ∷ v ∷ [])) second ∙ s in absurd cc
-  by_lexeme cs (x ∷ y ∷ z ∷ v) t lone e (sign w k s) = absurd (omega (arith, sign-short (x ∷ y ∷ z ∷ v) k s))
-  by_lexeme cs w t lone e hole = let same : c ≡ 35 = cc in other same
-
-mark-no_digit : (c : ℕ) (cs : List ℕ) → class c ≡ Mark → HasNoDigit (c ∷ cs)
-mark-no_digit c cs is = rw is refl
-
--- no sign is at the front
-mark_stuck : (c : ℕ) (cs : List ℕ) → class c ≡ Mark → (c ≡ 35 → ⊥) → HasNoPair (c ∷ cs) → sign_of (c ∷ []) ≡ nothing → IsStuck (c ∷ cs) × HasNoDigit (c ∷ cs)
-mark_stuck c cs is other lone none = (
-  record {
-    some = omega arith;
-    no_token = λ token rest k. no_mark c cs token rest is other lone none k;
-    no_gap = λ rest k. no_gap_at c cs rest Mark is (λ bad. absurd cc) k;
-  },
-  mark-no_digit c cs is,
-)
-
--- a comment opens at the front
-comment_stuck : (c : ℕ) (cs : List ℕ) → class c ≡ Mark → opens_comment (c ∷ cs) ≡ true → IsStuck (c ∷ cs) × HasNoDigit (c ∷ cs)
-comment_stuck c cs is o = (
-  record {
-    some = omega arith;
-    no_token = λ token rest k. let bad : true ≡ false = sym o ∙ k.plain in absurd cc;
-    no_gap = λ rest k. no_gap_at c cs rest Mark is (λ bad. absurd cc) k;
-  },
-  mark-no_digit c cs is,
-)
+} where
+  longest : (w r : List ℕ) (u : TokenKind) → 35 ∷ cs ≡ w ++ r → Lexeme w u → length w ≤ 1
+  longest w r u e l =
+      let f = lexeme_front 35 cs w r u e l in
+      omega (arith, ap length f.1, ap length (hole_lexeme f.0 u f.3).0)
 
 -- ---- the same of a text
 
 pub hole_at : (text : List ℕ) → 0 < length text → get_or text 0 0 ≡ 35 → (0 < 1) × (1 ≤ length text) × Takes text Hole (drop 1 text)
 hole_at [] h e = absurd (omega (arith, h))
-hole_at (c ∷ cs) h e = (omega arith, omega arith, hole_taken c cs e)
+hole_at (c ∷ cs) h e = (omega arith, omega arith, rw e (hole_taken cs))
 
 pub pair_at : (text : List ℕ) (k : ℕ) → pair_sign text ≡ some k → opens_comment text ≡ false → (0 < 2) × (2 ≤ length text) × Takes text (Sign k) (drop 2 text)
 pair_at [] k s plain = absurd cc
@@ -133,10 +97,21 @@ pub single_at : (text : List ℕ) (k : ℕ) → single_sign text ≡ some k → 
 single_at [] k s lone plain = absurd cc
 single_at (c ∷ cs) k s lone plain = (omega arith, omega arith, one_taken c cs k s lone plain)
 
-pub no_sign_at : (text : List ℕ) → 0 < length text → class (get_or text 0 0) ≡ Mark → (get_or text 0 0 ≡ 35 → ⊥) → pair_sign text ≡ nothing → single_sign text ≡ nothing → IsStuck text × HasNoDigit text
-no_sign_at [] h is other lone none = absurd (omega (arith, h))
-no_sign_at (c ∷ cs) h is other lone none = mark_stuck c cs is other lone none
+mark-begins : (c : ℕ) (cs : List ℕ) → class c ≡ Mark → (c ≡ 35 → ⊥) → opens_string (c ∷ cs) ≡ false → begins_sign c ≡ true
+mark-begins c cs is other no_string = go (c == 35) refl where
+  go : (b : Bool) → (c == 35) ≡ b → begins_sign c ≡ true
+  go true e = absurd (other (eqb-true c 35 e))
+  go false e = rw (is, e, no_string) refl
 
-pub comment_at : (text : List ℕ) → 0 < length text → class (get_or text 0 0) ≡ Mark → opens_comment text ≡ true → IsStuck text × HasNoDigit text
-comment_at [] h is o = absurd (omega (arith, h))
-comment_at (c ∷ cs) h is o = comment_stuck c cs is o
+-- no sign is at the front
+pub no_sign_at : (text : List ℕ) → 0 < length text → class (get_or text 0 0) ≡ Mark → (get_or text 0 0 ≡ 35 → ⊥) → opens_comment text ≡ false → opens_string text ≡ false
+    → pair_sign text ≡ nothing → single_sign text ≡ nothing → IsStuck text × HasBadCharacter text
+no_sign_at [] h is other plain no_string lone none = absurd (omega (arith, h))
+no_sign_at (c ∷ cs) h is other plain no_string lone none = (
+  record {
+    some = h;
+    no_token = λ token rest k. no_mark c cs token rest is (mark-begins c cs is other no_string) lone none k;
+    no_gap = λ rest k. no_gap_at c cs rest Mark is (λ bad. absurd cc) plain k;
+  },
+  record { no_comment = plain; no_string = no_string; no_digit = rw is refl },
+)

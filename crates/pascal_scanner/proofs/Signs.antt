@@ -1,5 +1,5 @@
--- What the table of signs comes to.
-use Rattle.std.proofs.Common.{◌≡◌, ℕ, ◌+◌, ◌≤◌, Bool, true, false, cond, not, ◌&&◌, ◌==◌, List, [], ◌∷◌, length, map, refl, sym, ap, ◌∙◌, arith, None, Some}
+-- What the table of signs and that of the alternative tokens come to.
+use Rattle.std.proofs.Common.{◌≡◌, ℕ, ◌+◌, ◌≤◌, Bool, true, false, cond, not, ◌&&◌, ◌==◌, List, [], ◌∷◌, length, map, codes, refl, sym, ap, ◌∙◌, arith, None, Some}
 use Rattle.std.specs.declared.option.Option.{Option}
 use Rattle.std.specs.List.{position_from}
 use Rattle.std.specs.Str.{bytes_eq}
@@ -7,7 +7,9 @@ use Rattle.std.specs.Cmp.Lexicographic.{same_text}
 use Rattle.dice_base.specs.declared.byte.ByteClass.{ByteClass}
 use Rattle.dice_base.specs.declared.byte.ByteClass.TheVariants.{Letter, Digit, Separator, Mark}
 use Rattle.dice_base.specs.declared.symbols.TheConstants.{SIGNS}
-use Rattle.dice_base.specs.Lexemes.{class, sign_of}
+use Rattle.dice_base.specs.declared.token.TokenKind.TheVariants.{Sign}
+use Rattle.dice_base.specs.Lexemes.{class, sign_of, alternative_of, Lexeme, sign, alternative}
+use Rattle.pascal_scanner.specs.Longest.{first_of_two, spelled_sign}
 
 abbrev pub some : ℕ → Option ℕ
 some n = Some n
@@ -39,20 +41,70 @@ found_passes q w i (s ∷ ss) k e all = go (λ known. found_passes q w (i + 1) s
   go later true is known = ap q (sym (same_text s w (sym is))) ∙ both-left (q s) (all_of q ss) all
   go later false is known = later known
 
+-- the alternative tokens, each with its sign
+pub by_alternative : (P : List ℕ → Option ℕ → Type 0) → P (codes "@") (sign_of (codes "^")) → P (codes "(.") (sign_of (codes "[")) → P (codes ".)") (sign_of (codes "]"))
+    → (w : List ℕ) (k : ℕ) → alternative_of w ≡ some k → P w (some k)
+unfolding alternative_of
+by_alternative P arrow left right w k e = go (bytes_eq w (codes "@")) (bytes_eq w (codes "(.")) (bytes_eq w (codes ".)")) refl refl refl e where
+  at : (v : List ℕ) (o : Option ℕ) → P v o → bytes_eq w v ≡ true → o ≡ some k → P w (some k)
+  at v o p is known = rw (same_text w v (sym is), ← known) p
+
+  go : (a b d : Bool) → bytes_eq w (codes "@") ≡ a → bytes_eq w (codes "(.") ≡ b → bytes_eq w (codes ".)") ≡ d
+      → cond a (sign_of (codes "^")) (cond b (sign_of (codes "[")) (cond d (sign_of (codes "]")) nothing)) ≡ some k → P w (some k)
+  go true b d p q r known = at (codes "@") _ arrow p known
+  go false true d p q r known = at (codes "(.") _ left q known
+  go false false true p q r known = at (codes ".)") _ right r known
+  go false false false p q r known = absurd cc
+
+-- ---- the shape of signs
+
 abbrev pub is_mark : ByteClass → Bool
 is_mark Mark = true
 is_mark _ = false
 
--- one or two bytes, the first of them no letter, no digit, no separator and not `#`
+-- no letter, no digit, no separator, not `#` and no apostrophe
+abbrev pub begins_sign : ℕ → Bool
+begins_sign c = is_mark (class c) && (not (c == 35) && not (c == 39))
+
+-- one or two bytes, the first of them one that may begin a sign
 abbrev pub sign_shape : List ℕ → Bool
 sign_shape [] = false
-sign_shape (c ∷ []) = is_mark (class c) && not (c == 35)
-sign_shape (c ∷ d ∷ []) = is_mark (class c) && not (c == 35)
+sign_shape (c ∷ []) = begins_sign c
+sign_shape (c ∷ d ∷ []) = begins_sign c
 sign_shape (c ∷ d ∷ e ∷ w) = false
 
-pub sign-shape : (w : List ℕ) (k : ℕ) → sign_of w ≡ some k → sign_shape w ≡ true
+sign-shape : (w : List ℕ) (k : ℕ) → sign_of w ≡ some k → sign_shape w ≡ true
 unfolding sign_of
 sign-shape w k e = found_passes sign_shape w 0 (map (λ s. s.now) SIGNS) k e refl
+
+alternative-shape : (w : List ℕ) (k : ℕ) → alternative_of w ≡ some k → sign_shape w ≡ true
+alternative-shape = by_alternative (λ w o. sign_shape w ≡ true) refl refl refl
+
+-- ---- a sign in either spelling
+
+pub spelled-sign : (w : List ℕ) (k : ℕ) → sign_of w ≡ some k → spelled_sign w ≡ some k
+spelled-sign w k e = ap (λ o. first_of_two o (alternative_of w)) e
+
+-- the table of signs has no alternative token
+alternative-no_sign : (w : List ℕ) (k : ℕ) → alternative_of w ≡ some k → sign_of w ≡ nothing
+unfolding sign_of
+alternative-no_sign = by_alternative (λ w o. sign_of w ≡ nothing) refl refl refl
+
+pub spelled-alternative : (w : List ℕ) (k : ℕ) → alternative_of w ≡ some k → spelled_sign w ≡ some k
+spelled-alternative w k e = ap (λ o. first_of_two o (alternative_of w)) (alternative-no_sign w k e) ∙ e
+
+-- what holds of both spellings
+by_spelling : (w : List ℕ) (k : ℕ) (P : Type 0) → (sign_of w ≡ some k → P) → (alternative_of w ≡ some k → P) → spelled_sign w ≡ some k → P
+by_spelling w k P first second e = go (sign_of w) refl e where
+  go : (o : Option ℕ) → sign_of w ≡ o → first_of_two o (alternative_of w) ≡ some k → P
+  go (Some n) is known = first (is ∙ known)
+  go None is known = second known
+
+pub spelled-lexeme : (w : List ℕ) (k : ℕ) → spelled_sign w ≡ some k → Lexeme w (Sign k)
+spelled-lexeme w k = by_spelling w k (Lexeme w (Sign k)) (sign w k) (alternative w k)
+
+spelled-shape : (w : List ℕ) (k : ℕ) → spelled_sign w ≡ some k → sign_shape w ≡ true
+spelled-shape w k = by_spelling w k (sign_shape w ≡ true) (sign-shape w k) (alternative-shape w k)
 
 is_mark-true : (b : ByteClass) → is_mark b ≡ true → b ≡ Mark
 is_mark-true Letter e = absurd cc
@@ -60,16 +112,16 @@ is_mark-true Digit e = absurd cc
 is_mark-true Separator e = absurd cc
 is_mark-true Mark e = refl
 
-shape-mark : (c : ℕ) (cs : List ℕ) → sign_shape (c ∷ cs) ≡ true → (is_mark (class c) && not (c == 35)) ≡ true
-shape-mark c [] e = e
-shape-mark c (d ∷ []) e = e
-shape-mark c (d ∷ f ∷ w) e = absurd cc
+shape-begins : (c : ℕ) (cs : List ℕ) → sign_shape (c ∷ cs) ≡ true → begins_sign c ≡ true
+shape-begins c [] e = e
+shape-begins c (d ∷ []) e = e
+shape-begins c (d ∷ f ∷ w) e = absurd cc
 
-pub sign-mark : (c : ℕ) (cs : List ℕ) (k : ℕ) → sign_of (c ∷ cs) ≡ some k → class c ≡ Mark
-sign-mark c cs k e = is_mark-true (class c) (both-left _ _ (shape-mark c cs (sign-shape (c ∷ cs) k e)))
+pub spelled-begins : (c : ℕ) (cs : List ℕ) (k : ℕ) → spelled_sign (c ∷ cs) ≡ some k → begins_sign c ≡ true
+spelled-begins c cs k e = shape-begins c cs (spelled-shape (c ∷ cs) k e)
 
-pub sign-no_hole : (c : ℕ) (cs : List ℕ) (k : ℕ) → sign_of (c ∷ cs) ≡ some k → not (c == 35) ≡ true
-sign-no_hole c cs k e = both-right (is_mark (class c)) _ (shape-mark c cs (sign-shape (c ∷ cs) k e))
+pub spelled-mark : (c : ℕ) (cs : List ℕ) (k : ℕ) → spelled_sign (c ∷ cs) ≡ some k → class c ≡ Mark
+spelled-mark c cs k e = is_mark-true (class c) (both-left _ _ (spelled-begins c cs k e))
 
 shape-short : (w : List ℕ) → sign_shape w ≡ true → length w ≤ 2
 shape-short [] e = omega arith
@@ -77,8 +129,8 @@ shape-short (c ∷ []) e = omega arith
 shape-short (c ∷ d ∷ []) e = omega arith
 shape-short (c ∷ d ∷ f ∷ w) e = absurd cc
 
-pub sign-short : (w : List ℕ) (k : ℕ) → sign_of w ≡ some k → length w ≤ 2
-sign-short w k e = shape-short w (sign-shape w k e)
+pub spelled-short : (w : List ℕ) (k : ℕ) → spelled_sign w ≡ some k → length w ≤ 2
+spelled-short w k e = shape-short w (spelled-shape w k e)
 
-pub no_sign-nil : (k : ℕ) → sign_of [] ≡ some k → ⊥
-no_sign-nil k e = let bad : false ≡ true = sign-shape [] k e in absurd cc
+pub no_spelled-nil : (k : ℕ) → spelled_sign [] ≡ some k → ⊥
+no_spelled-nil k e = let bad : false ≡ true = spelled-shape [] k e in absurd cc

@@ -1,64 +1,32 @@
 -- What is taken at the front of a text, and that it is the only thing.
-use Rattle.std.proofs.Common.{◌≡◌, ℕ, ◌≤◌, ◌<◌, Bool, true, false, ◌&&◌, ◌||◌, ◌==◌, List, [], ◌∷◌, ◌++◌, length, map, get_or, take, drop, refl, sym, ap, subst, ◌∙◌, arith, None, Some, eqb-true}
+use Rattle.std.proofs.Common.{◌≡◌, ℕ, ◌≤◌, ◌<◌, true, List, [], ◌∷◌, ◌++◌, length, map, get_or, take, drop, refl, ap, subst, ◌∙◌, arith, None, Some}
 use Rattle.std.specs.declared.option.Option.{Option}
 use Rattle.std.specs.List.{AllByRecursion}
-use Rattle.dice_base.specs.declared.byte.ByteClass.{ByteClass}
-use Rattle.dice_base.specs.declared.byte.ByteClass.TheVariants.{Letter, Digit, Separator, Mark}
+use Rattle.dice_base.specs.declared.byte.ByteClass.TheVariants.{Letter, Digit, Separator}
 use Rattle.dice_base.specs.declared.token.TokenKind.{TokenKind}
 use Rattle.dice_base.specs.declared.token.TokenKind.TheVariants.{Number}
-use Rattle.dice_base.specs.Lexemes.{class, word_byte, digit_byte, value_of, lower, named_by, named, word_symbol, Lexeme, word, number, sign, hole, opens_comment, MayFollow, Takes, Skips, blank}
+use Rattle.dice_base.specs.Lexemes.{class, word_byte, digit_byte, value_of, largest_number, lower, named_by, named, word_symbol, Lexeme, word, number, MayFollow, Takes, Skips, blank}
 use Rattle.pascal_scanner.specs.Longest.{front, past}
 use Rattle.pascal_scanner.specs.Unread.{IsStuck, HasLargeNumber}
 use Rattle.pascal_scanner.proofs.Fronts.{front_parts, front_passes, front_longest, past_stops, take-front, drop-front, length-front-le}
-use Rattle.pascal_scanner.proofs.Signs.{sign-mark, no_sign-nil}
-
--- a byte is of one class
-pub clash : {X : Type 0} (c d : ℕ) (a b : ByteClass) → class c ≡ a → class d ≡ b → c ≡ d → (a ≡ b → X) → X
-clash c d a b p q same refute = refute (sym p ∙ ap class same ∙ q)
-
--- a lexeme is not empty, and begins with no separator
-pub no_lexeme-nil : (t : TokenKind) → Lexeme [] t → ⊥
-no_lexeme-nil t (sign w k e) = no_sign-nil k e
+use Rattle.pascal_scanner.proofs.Classes.{no_lexeme-nil, lexeme_front, of_class}
+use Rattle.pascal_scanner.proofs.Comments.{no_comment, no_gap_at}
 
 pub lexeme-some : (w : List ℕ) (t : TokenKind) → Lexeme w t → 0 < length w
 lexeme-some [] t l = absurd (no_lexeme-nil t l)
 lexeme-some (c ∷ cs) t l = omega arith
 
-pub no_lexeme-separator : (c : ℕ) (cs : List ℕ) (t : TokenKind) → class c ≡ Separator → Lexeme (c ∷ cs) t → ⊥
-no_lexeme-separator c cs t is (word c2 cs2 is2 each2) = clash c c _ _ is is2 refl (λ bad. absurd cc)
-no_lexeme-separator c cs t is (number c2 cs2 is2 each2 low2) = clash c c _ _ is is2 refl (λ bad. absurd cc)
-no_lexeme-separator c cs t is (sign w k e) = clash c c _ _ is (sign-mark c cs k e) refl (λ bad. absurd cc)
-no_lexeme-separator c cs t is hole = let bad : Mark ≡ Separator = is in absurd cc
-
--- a comment opens with a mark
-pub no_comment : (c : ℕ) (cs : List ℕ) (k : ByteClass) → class c ≡ k → (k ≡ Mark → ⊥) → opens_comment (c ∷ cs) ≡ false
-no_comment c [] k is other = go (c == 123) refl where
-  go : (b : Bool) → (c == 123) ≡ b → b ≡ false
-  go true e = absurd (other (sym is ∙ ap class (eqb-true c 123 e)))
-  go false e = refl
-no_comment c (d ∷ cs) k is other = go (c == 123) (c == 40) refl refl where
-  go : (a b : Bool) → (c == 123) ≡ a → (c == 40) ≡ b → (a || (b && (d == 42))) ≡ false
-  go true b e f = absurd (other (sym is ∙ ap class (eqb-true c 123 e)))
-  go false true e f = absurd (other (sym is ∙ ap class (eqb-true c 40 f)))
-  go false false e f = refl
-
 -- ---- words and numbers
 
 letter_longest : (c : ℕ) (cs w r : List ℕ) (u : TokenKind) → class c ≡ Letter → c ∷ cs ≡ w ++ r → Lexeme w u → length w ≤ length (c ∷ front word_byte cs)
-letter_longest c cs w r u is e (word d ds isd each) =
-    let more : cs ≡ ds ++ r = cc in omega (arith, front_longest word_byte cs ds r more each)
-letter_longest c cs w r u is e (number d ds isd each low) = let same : c ≡ d = cc in clash c d _ _ is isd same (λ bad. absurd cc)
-letter_longest c cs [] r u is e (sign w k s) = omega arith
-letter_longest c cs (d ∷ ds) r u is e (sign w k s) = let same : c ≡ d = cc in clash c d _ _ is (sign-mark d ds k s) same (λ bad. absurd cc)
-letter_longest c cs w r u is e hole = omega arith
+letter_longest c cs w r u is e l =
+    let f = lexeme_front c cs w r u e l in
+    omega (arith, ap length f.1, front_longest word_byte cs f.0 r f.2 (of_class Letter c f.0 u is f.3).0)
 
 digit_longest : (c : ℕ) (cs w r : List ℕ) (u : TokenKind) → class c ≡ Digit → c ∷ cs ≡ w ++ r → Lexeme w u → length w ≤ length (c ∷ front digit_byte cs)
-digit_longest c cs w r u is e (number d ds isd each low) =
-    let more : cs ≡ ds ++ r = cc in omega (arith, front_longest digit_byte cs ds r more each)
-digit_longest c cs w r u is e (word d ds isd each) = let same : c ≡ d = cc in clash c d _ _ is isd same (λ bad. absurd cc)
-digit_longest c cs [] r u is e (sign w k s) = omega arith
-digit_longest c cs (d ∷ ds) r u is e (sign w k s) = let same : c ≡ d = cc in clash c d _ _ is (sign-mark d ds k s) same (λ bad. absurd cc)
-digit_longest c cs w r u is e hole = omega arith
+digit_longest c cs w r u is e l =
+    let f = lexeme_front c cs w r u e l in
+    omega (arith, ap length f.1, front_longest digit_byte cs f.0 r f.2 (of_class Digit c f.0 u is f.3).0)
 
 named-follows : (o : Option ℕ) (w rest : List ℕ) → MayFollow (named_by o w) rest
 named-follows None w rest = tt
@@ -74,7 +42,7 @@ letter_takes c cs is = record {
   plain = no_comment c cs Letter is (λ bad. absurd cc);
 }
 
-digit_takes : (c : ℕ) (cs : List ℕ) → class c ≡ Digit → value_of (c ∷ front digit_byte cs) ≤ 32767 → Takes (c ∷ cs) (Number (value_of (c ∷ front digit_byte cs))) (past digit_byte cs)
+digit_takes : (c : ℕ) (cs : List ℕ) → class c ≡ Digit → value_of (c ∷ front digit_byte cs) ≤ largest_number → Takes (c ∷ cs) (Number (value_of (c ∷ front digit_byte cs))) (past digit_byte cs)
 digit_takes c cs is low = record {
   lexeme = c ∷ front digit_byte cs;
   parts = ap (λ (t : List ℕ). c ∷ t) (front_parts digit_byte cs);
@@ -90,10 +58,6 @@ letter_front c cs is = rw is (refl, refl)
 digit_front : (c : ℕ) (cs : List ℕ) → class c ≡ Digit → (front digit_byte (c ∷ cs) ≡ c ∷ front digit_byte cs) × (past digit_byte (c ∷ cs) ≡ past digit_byte cs)
 digit_front c cs is = rw is (refl, refl)
 
--- no gap is at a byte of another class
-pub no_gap_at : (c : ℕ) (cs rest : List ℕ) (k : ByteClass) → class c ≡ k → (k ≡ Separator → ⊥) → Skips (c ∷ cs) rest → ⊥
-no_gap_at c cs rest k is other (blank c2 cs2 is2) = other (sym is ∙ is2)
-
 -- a front of digits that no digit follows is the longest
 front-whole : (ds r : List ℕ) → AllByRecursion (λ b. digit_byte b ≡ true) ds → MayFollow (Number 0) r → front digit_byte (ds ++ r) ≡ ds
 front-whole [] [] each f = refl
@@ -104,19 +68,14 @@ follows-same : (m n : ℕ) (r : List ℕ) → MayFollow (Number m) r → MayFoll
 follows-same m n [] f = tt
 follows-same m n (c ∷ r) f = f
 
-no_number : (c : ℕ) (cs : List ℕ) (token : TokenKind) (rest : List ℕ) → class c ≡ Digit → 32767 < value_of (c ∷ front digit_byte cs) → Takes (c ∷ cs) token rest → ⊥
-no_number c cs token rest is big k = by_lexeme k.lexeme token k.parts k.is k.follows where
-  by_lexeme : (w : List ℕ) (t : TokenKind) → c ∷ cs ≡ w ++ rest → Lexeme w t → MayFollow t rest → ⊥
-  by_lexeme w t e (number d ds isd each low) f =
-      let same : c ≡ d = cc in
-      let more : cs ≡ ds ++ rest = cc in
-      let whole : front digit_byte cs ≡ ds = ap (front digit_byte) more ∙ front-whole ds rest each (follows-same (value_of (d ∷ ds)) 0 rest f) in
-      let big2 : 32767 < value_of (d ∷ ds) = subst (λ (x : ℕ). 32767 < value_of (x ∷ ds)) same (subst (λ (v : List ℕ). 32767 < value_of (c ∷ v)) whole big) in
-      omega (arith, big2, low)
-  by_lexeme w t e (word d ds isd each) f = let same : c ≡ d = cc in clash c d _ _ is isd same (λ bad. absurd cc)
-  by_lexeme [] t e (sign w k s) f = no_sign-nil k s
-  by_lexeme (d ∷ ds) t e (sign w k s) f = let same : c ≡ d = cc in clash c d _ _ is (sign-mark d ds k s) same (λ bad. absurd cc)
-  by_lexeme w t e hole f = let same : c ≡ 35 = cc in clash c 35 _ Mark is refl same (λ bad. absurd cc)
+no_number : (c : ℕ) (cs : List ℕ) (token : TokenKind) (rest : List ℕ) → class c ≡ Digit → largest_number < value_of (c ∷ front digit_byte cs) → Takes (c ∷ cs) token rest → ⊥
+no_number c cs token rest is big k =
+    let f = lexeme_front c cs k.lexeme rest token k.parts k.is in
+    let d = of_class Digit c f.0 token is f.3 in
+    let follows : MayFollow (Number 0) rest = follows-same (value_of (c ∷ f.0)) 0 rest (subst (λ (t : TokenKind). MayFollow t rest) d.2 k.follows) in
+    let whole : front digit_byte cs ≡ f.0 = ap (front digit_byte) f.2 ∙ front-whole f.0 rest d.0 follows in
+    let big2 : largest_number < value_of (c ∷ f.0) = subst (λ (v : List ℕ). largest_number < value_of (c ∷ v)) whole big in
+    omega (arith, big2, d.1)
 
 -- the word at the front of a text
 pub word_taken : (text : List ℕ) (n : ℕ) → 0 < length text → class (get_or text 0 0) ≡ Letter → n ≡ length (front word_byte text) → (0 < n) × (n ≤ length text) × Takes text (named (take n text)) (drop n text)
@@ -128,7 +87,7 @@ word_taken (c ∷ cs) n h is e =
     (omega (arith, e, ap length f.0), omega (arith, e, length-front-le word_byte (c ∷ cs)), rw (t, d) (letter_takes c cs is))
 
 -- the number at the front of a text
-pub number_taken : (text : List ℕ) (n : ℕ) → 0 < length text → class (get_or text 0 0) ≡ Digit → n ≡ length (front digit_byte text) → value_of (take n text) ≤ 32767 → (0 < n) × (n ≤ length text) × Takes text (Number (value_of (take n text))) (drop n text)
+pub number_taken : (text : List ℕ) (n : ℕ) → 0 < length text → class (get_or text 0 0) ≡ Digit → n ≡ length (front digit_byte text) → value_of (take n text) ≤ largest_number → (0 < n) × (n ≤ length text) × Takes text (Number (value_of (take n text))) (drop n text)
 number_taken [] n h is e low = absurd (omega (arith, h))
 number_taken (c ∷ cs) n h is e low =
     let f = digit_front c cs is in
@@ -137,15 +96,15 @@ number_taken (c ∷ cs) n h is e low =
     (omega (arith, e, ap length f.0), omega (arith, e, length-front-le digit_byte (c ∷ cs)), rw (t, d) (digit_takes c cs is (rw (← t) low)))
 
 -- the digits at the front of a text are a number that is too large
-pub number_stuck : (text : List ℕ) (n : ℕ) → 0 < length text → class (get_or text 0 0) ≡ Digit → n ≡ length (front digit_byte text) → 32767 < value_of (take n text) → IsStuck text × HasLargeNumber text
+pub number_stuck : (text : List ℕ) (n : ℕ) → 0 < length text → class (get_or text 0 0) ≡ Digit → n ≡ length (front digit_byte text) → largest_number < value_of (take n text) → IsStuck text × HasLargeNumber text
 number_stuck [] n h is e big = absurd (omega (arith, h))
 number_stuck (c ∷ cs) n h is e big =
     let t : take n (c ∷ cs) ≡ front digit_byte (c ∷ cs) = ap (λ m. take m (c ∷ cs)) e ∙ take-front digit_byte (c ∷ cs) in
-    let large : 32767 < value_of (front digit_byte (c ∷ cs)) = rw (← t) big in (
+    let large : largest_number < value_of (front digit_byte (c ∷ cs)) = rw (← t) big in (
       record {
         some = h;
         no_token = λ token rest k. no_number c cs token rest is (rw (digit_front c cs is).0 at large) k;
-        no_gap = λ rest k. no_gap_at c cs rest Digit is (λ bad. absurd cc) k;
+        no_gap = λ rest k. no_gap_at c cs rest Digit is (λ bad. absurd cc) (no_comment c cs Digit is (λ bad. absurd cc)) k;
       },
       record {
         digits = front digit_byte (c ∷ cs);

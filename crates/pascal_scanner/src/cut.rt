@@ -7,12 +7,10 @@ ghost use Rattle.pascal_scanner.specs.Progress.{IsRead};
 ghost use Rattle.pascal_scanner.specs.Spans.{Stand};
 ghost use Rattle.pascal_scanner.specs.Unread.{Reports};
 
-use crate::ScanFault;
 use crate::front::{Step, Stop, read_step};
+use crate::{MAX_TEXT_BYTES, ScanFault};
 use dice_base::{Span, Token, TokenKind};
 use std::alloc::Global;
-
-const MAX_BYTES: usize = 65_536;
 
 fn push_token(
     tokens: &mut Vec<Token>,
@@ -43,7 +41,7 @@ fn read_on(
     at: usize,
     tokens: &mut Vec<Token>,
 ) -> Result<usize, ScanFault>
-    requires short { length text.now ≤ 65536 }
+    requires short { length text.now ≤ MAX_TEXT_BYTES }
     requires some { at < length text.now }
     requires read { IsRead text.now at tokens.old.items }
     ensures moves { IfOk result (λ next. at < next) }
@@ -58,6 +56,8 @@ fn read_on(
         }
         Err(Stop::Memory) => Err(ScanFault::NoMemory),
         Err(Stop::Character) => Err(ScanFault::BadCharacter(at as u32)),
+        Err(Stop::Comment) => Err(ScanFault::OpenComment(at as u32)),
+        Err(Stop::String) => Err(ScanFault::OpenString(at as u32)),
         Err(Stop::Number) => Err(ScanFault::NumberTooLarge(at as u32)),
     }
 }
@@ -70,10 +70,10 @@ pub fn scan(alloc: Global, text: &[u8]) -> Result<Vec<Token>, ScanFault>
         Lexes text.now list → list ≡ map (λ t. t.kind) tokens.items) }
     // Each stands where its span says.
     ensures spans { IfOk result (λ tokens. Stand text.now tokens.items) }
-    ensures long { IsErrOf result ScanFault.TextTooLong ↔ (65536 < length text.now) }
+    ensures long { IsErrOf result ScanFault.TextTooLong ↔ (MAX_TEXT_BYTES < length text.now) }
     ensures fault { IfErr result (λ e. Reports e text.now) }
 {
-    if text.len() > MAX_BYTES {
+    if text.len() > MAX_TEXT_BYTES {
         return Err(ScanFault::TextTooLong);
     }
     let mut tokens = Vec::new(alloc);

@@ -7,7 +7,10 @@ ghost use Rattle.pascal_scanner.specs.Longest.{front};
 ghost use Rattle.pascal_scanner.specs.Longest as longest;
 ghost use Rattle.pascal_scanner.specs.Progress.{Steps, Stops};
 
-use dice_base::{ByteClass, NoMemory, SIGNS, Text, TokenKind, WORD_SYMBOLS, byte_class};
+use crate::comment::{comment_step, opens_comment};
+use crate::sign::{place_of, sign_step};
+use crate::string::{opens_string, string_step};
+use dice_base::{ByteClass, NoMemory, Text, TokenKind, WORD_SYMBOLS, byte_class};
 use std::alloc::Global;
 
 /// What stands at the front of a text, with its length in bytes.
@@ -24,6 +27,8 @@ pub enum Step {
 pub enum Stop {
     Memory,
     Character,
+    Comment,
+    String,
     Number,
 }
 
@@ -84,7 +89,7 @@ fn digits_len(text: &[u8]) -> usize
 
 // The value of digits, where it is no larger than a number may be.
 fn number_of(digits: &[u8]) -> Option<u16>
-    ensures { result ≡ (if nat_le (lex.value_of digits.now) 32767 then Some (lex.value_of digits.now) else None) }
+    ensures { result ≡ (if nat_le (lex.value_of digits.now) lex.largest_number then Some (lex.value_of digits.now) else None) }
 {
     let mut value: u32 = 0;
     for digit in digits {
@@ -96,29 +101,11 @@ fn number_of(digits: &[u8]) -> Option<u16>
     Some(value as u16)
 }
 
-// The place of a text in a table.
-fn place_of(table: &[&[u8]], piece: &[u8]) -> Option<u8>
-    requires { length table.now ≤ 256 }
-    ensures { result ≡ lex.place_of (map (λ entry. entry.now) table.now) piece.now }
-{
-    for (at, entry) in table.iter().enumerate() {
-        if *entry == piece {
-            return Some(at as u8);
-        }
-    }
-    None
-}
-
+#[tactic(auto, unfolding(dice_base::specs::Lexemes::word_symbol))]
 fn word_symbol(piece: &[u8]) -> Option<u8>
     ensures { result ≡ lex.word_symbol piece.now }
 {
     place_of(&WORD_SYMBOLS, piece)
-}
-
-fn sign_of(piece: &[u8]) -> Option<u8>
-    ensures { result ≡ lex.sign_of piece.now }
-{
-    place_of(&SIGNS, piece)
 }
 
 // The same bytes with small letters.
@@ -141,16 +128,6 @@ fn named(alloc: Global, bytes: &[u8]) -> Result<TokenKind, NoMemory>
         Some(number) => TokenKind::Word(number),
         None => TokenKind::Ident(text),
     })
-}
-
-fn opens_comment(text: &[u8]) -> bool
-    ensures { result ≡ lex.opens_comment text.now }
-{
-    match text {
-        [] => false,
-        [first] => *first == b'{',
-        [first, second, ..] => *first == b'{' || (*first == b'(' && *second == b'*'),
-    }
 }
 
 fn word_step(alloc: Global, text: &[u8]) -> Result<Step, NoMemory>
@@ -176,45 +153,22 @@ fn number_step(text: &[u8]) -> Result<Step, Stop>
     }
 }
 
-fn pair_sign(text: &[u8]) -> Option<u8>
-    ensures value { result ≡ longest.pair_sign text.now }
-    ensures within { IfSome result (λ _. 2 ≤ length text.now) }
-{
-    match text {
-        [first, second, ..] => sign_of(&[*first, *second]),
-        _ => None,
-    }
-}
-
-fn single_sign(text: &[u8]) -> Option<u8>
-    ensures { result ≡ longest.single_sign text.now }
-{
-    match text {
-        [first, ..] => sign_of(&[*first]),
-        [] => None,
-    }
-}
-
-// The longer sign comes first.
-fn mark_step(text: &[u8]) -> Result<Step, Stop>
+fn mark_step(alloc: Global, text: &[u8]) -> Result<Step, Stop>
     requires some { 0 < length text.now }
     requires begins { lex.class (slice_index text.now 0) ≡ Mark }
     ensures ok { IfOk result (Steps text.now) }
     ensures err { IfErr result (Stops text.now) }
 {
     if opens_comment(text) {
-        return Err(Stop::Character);
+        return comment_step(text);
+    }
+    if opens_string(text) {
+        return string_step(alloc, text);
     }
     if text[0] == b'#' {
         return Ok(Step::Lexed(TokenKind::Hole, 1));
     }
-    if let Some(number) = pair_sign(text) {
-        return Ok(Step::Lexed(TokenKind::Sign(number), 2));
-    }
-    match single_sign(text) {
-        Some(number) => Ok(Step::Lexed(TokenKind::Sign(number), 1)),
-        None => Err(Stop::Character),
-    }
+    sign_step(text)
 }
 
 /// Reads what stands at the front of a text.
@@ -230,6 +184,6 @@ pub fn read_step(alloc: Global, text: &[u8]) -> Result<Step, Stop>
         }
         ByteClass::Digit => number_step(text),
         ByteClass::Separator => Ok(Step::Gap(1)),
-        ByteClass::Mark => mark_step(text),
+        ByteClass::Mark => mark_step(alloc, text),
     }
 }
