@@ -4,6 +4,8 @@ pub mod Programs
 pub mod Statements
 pub mod Classes
 pub mod Depth
+pub mod FormedExprs
+pub mod Formed
 pub mod Joined
 pub mod ExprTokens
 pub mod DeclTokens

@@ -1,0 +1,2 @@
+//! Which trees a text can spell.
+#![tactic(auto)]
