@@ -1,6 +1,6 @@
 -- Which programs a text can spell: those of words that a text can have in which no list is empty where the grammar
 -- (ISO 7185:1990, 6.2 to 6.10) wants one item or more, and each part is of the sort that its place asks for.
-use Rattle.std.specs.Prelude.{ℕ, Bool, true, false, ◌&&◌, List, [], ◌∷◌, Option, Some, None, is_none, map}
+use Rattle.std.specs.Prelude.{ℕ, Bool, true, false, ◌&&◌, ◌||◌, List, [], ◌∷◌, Option, Some, None, is_none, map}
 use Rattle.pascal_tree.specs.declared.stmt.Constant.{Constant}
 use Rattle.pascal_tree.specs.declared.stmt.Constant.TheVariants as constant
 use Rattle.pascal_tree.specs.declared.typing.TypeText.{TypeText, TypeText-F, fold-TypeText}
@@ -69,6 +69,9 @@ field_is_formed = fold-FieldText TypeShape Bool shape_of_type formed_field
 abbrev pub type_is_formed : TypeText → Bool
 type_is_formed t = (type_shape t).formed
 
+abbrev pub is_simple_type : TypeText → Bool
+is_simple_type t = is_simple (type_shape t)
+
 -- ---- declarations (6.2.1), in the four parts of a block
 
 unfoldable pub labels_are_formed : DeclKind → Bool
@@ -86,6 +89,10 @@ typedef_is_formed _ = false
 unfoldable pub vars_are_formed : DeclKind → Bool
 vars_are_formed (decl.VarDecl xs t) = are_identifiers xs && type_is_formed t
 vars_are_formed _ = false
+
+-- a declaration by itself
+abbrev pub decl_is_formed : DeclKind → Bool
+decl_is_formed kind = labels_are_formed kind || const_is_formed kind || typedef_is_formed kind || vars_are_formed kind
 
 -- a part of a block, whose declarations are of one kind
 abbrev pub part_is_formed : (DeclKind → Bool) → List Decl → Bool

@@ -35,7 +35,7 @@ use Rattle.tree_laws.proofs.Words.{and-parts}
 use Rattle.tree_laws.proofs.Gives.{Fits, AllFit, SomeFit}
 use Rattle.tree_laws.proofs.Layers.{opened, some_levels}
 use Rattle.tree_laws.proofs.ExprLayers.{AccessPartLayer, FactorLayer, AccessLayer, AddPartLayer, MulPartLayer, RelPartLayer, SumExprLayer, TermLayer, factor_levels, access_part_layer, factor_layer, access_layer, add_part_layer, arg_layer, expr_layer, mul_part_layer, rel_part_layer, member_layer, sum_layer, term_layer}
-use Rattle.tree_laws.proofs.Spells.{Spelling, whole, covers, done, left, right, after, identifier, number, string, word, sign, word_operator, sign_operator, items, list}
+use Rattle.tree_laws.proofs.Spells.{Spelling, whole, done, left, right, after, identifier, number, string, word, sign, word_operator, sign_operator, items, list}
 
 -- ---- accesses, arguments, sets and factors, where it holds of inner expressions
 
@@ -43,7 +43,7 @@ module _ (d : ℕ) (E : Form Expr) (inner : Spelling E expr_is_formed expr_depth
   part-layer : (x : AccessPartLayer) → Fits access_part_is_formed access_part_depth d (roll-AccessPart x) → Spelled (part_form E) (roll-AccessPart x) false
   part-layer (AccessPart-F.Index found) h =
       let (e, n) = opened access_part_layer (AccessPart-F.Index found) h in
-      left (sign signs.LEFT refl (after (list signs.COMMA refl (covers inner) found (record { is_formed = e; levels = n }))
+      left (sign signs.LEFT refl (after (list signs.COMMA refl inner found (record { is_formed = e; levels = n }))
       (sign signs.RIGHT refl (done (rolls-Index found)))))
   part-layer (AccessPart-F.Field x) h =
       let (e, n) = opened access_part_layer (AccessPart-F.Field x) h in
@@ -57,7 +57,7 @@ module _ (d : ℕ) (E : Form Expr) (inner : Spelling E expr_is_formed expr_depth
   access-layer x h =
       let (e, n) = opened access_layer x h in
       let (name, parts) = and-parts _ _ e in
-      after (identifier x.ident name) (after (items (covers part-spelled) x.parts (record { is_formed = parts; levels = omega (arith, n) })) (done refl))
+      after (identifier x.ident name) (after (items part-spelled x.parts (record { is_formed = parts; levels = omega (arith, n) })) (done refl))
 
   pub access-spelled : Spelling (access_form E) access_is_formed access_depth (suc d)
   access-spelled = whole roll-Access out-Access roll-out-Access access-layer
@@ -75,7 +75,7 @@ module _ (d : ℕ) (E : Form Expr) (inner : Spelling E expr_is_formed expr_depth
   arg-spelled = whole roll-Arg out-Arg roll-out-Arg (λ x h. arg-layer x.value x.width h)
 
   args-in-spelled : (args : List Arg) → SomeFit arg_is_formed arg_depth d args → Spelled (args_in E) args false
-  args-in-spelled args h = after (list signs.COMMA refl (covers arg-spelled) args h) (sign signs.CLOSE refl (done refl))
+  args-in-spelled args h = after (list signs.COMMA refl arg-spelled args h) (sign signs.CLOSE refl (done refl))
 
   pub args-spelled : (args : List Arg) → AllFit arg_is_formed arg_depth d args → Spelled (args_form E) args false
   args-spelled [] h = right (done refl)
@@ -96,7 +96,7 @@ module _ (d : ℕ) (E : Form Expr) (inner : Spelling E expr_is_formed expr_depth
   members-spelled : (found : List SetMember) → AllFit member_is_formed member_depth d found → Spelled (members_in E) (roll-Factor (Factor-F.Members found)) false
   members-spelled [] h = left (sign signs.RIGHT refl (done (rolls-Members [])))
   members-spelled (x ∷ xs) h =
-      right (after (list signs.COMMA refl (covers member-spelled) (x ∷ xs) (record { is_formed = h.is_formed; levels = h.levels }))
+      right (after (list signs.COMMA refl member-spelled (x ∷ xs) (record { is_formed = h.is_formed; levels = h.levels }))
       (sign signs.RIGHT refl (done (rolls-Members (x ∷ xs)))))
 
   module _ (N : Form Factor) (operand : Spelling N factor_is_formed factor_depth d) where
@@ -171,7 +171,7 @@ module _ (d : ℕ) (F : Form Factor) (inner : Spelling F factor_is_formed factor
   term-layer x h =
       let (e, n) = opened term_layer x h in
       after (inner x.first (record { is_formed = (and-parts _ _ e).0; levels = omega (arith, n) }))
-      (after (items (covers mul-spelled) x.rest (record { is_formed = (and-parts _ _ e).1; levels = omega (arith, n) })) (done refl))
+      (after (items mul-spelled x.rest (record { is_formed = (and-parts _ _ e).1; levels = omega (arith, n) })) (done refl))
 
   term-spelled : Spelling (term_form F) term_is_formed term_depth d
   term-spelled = whole roll-Term out-Term roll-out-Term term-layer
@@ -189,7 +189,7 @@ module _ (d : ℕ) (F : Form Factor) (inner : Spelling F factor_is_formed factor
       let (e, n) = opened sum_layer x h in
       after (sign-spelled x.prefix)
       (after (term-spelled x.first (record { is_formed = (and-parts _ _ e).0; levels = omega (arith, n) }))
-      (after (items (covers add-spelled) x.rest (record { is_formed = (and-parts _ _ e).1; levels = omega (arith, n) })) (done refl)))
+      (after (items add-spelled x.rest (record { is_formed = (and-parts _ _ e).1; levels = omega (arith, n) })) (done refl)))
 
   sum-spelled : Spelling (sum_form F) sum_is_formed sum_depth d
   sum-spelled = whole roll-SumExpr out-SumExpr roll-out-SumExpr sum-layer

@@ -156,3 +156,19 @@ module _ {A : Type 0} {formed : A → Bool} {depth : A → ℕ} {d : ℕ} where
 
   pub ended : {g : Form A} (c : ℕ) → Gives g (Fitting formed depth d) → Gives (ended_list c g) (λ xs w. SomeFit formed depth d xs)
   ended c r = behind r (λ a w f. behind (more_items (mark r) f) (λ xs w f. choice (mark (give f)) (give f)))
+
+-- ---- values without levels of their own
+
+abbrev pub no_levels : {A : Type 0} → A → ℕ
+no_levels a = 0
+
+-- each of a list
+abbrev pub AreFormed : {A : Type 0} → (A → Bool) → List A → Bool → Type 0
+AreFormed formed xs w = some_formed (map formed xs) ≡ true
+
+pub flat_list : {A : Type 0} {formed : A → Bool} {g : Form A} (c : ℕ) → Gives g (λ a w. formed a ≡ true) → Gives (list_of c g) (AreFormed formed)
+flat_list {A} {formed} {g} c r =
+    weaken (list c (weaken r fit)) (λ xs w f. f.is_formed)
+  where
+    fit : (a : A) (w : Bool) → formed a ≡ true → Fits formed no_levels 0 a
+    fit a w e = record { is_formed = e; levels = omega arith }

@@ -4,4 +4,7 @@ pub mod ExprSpells
 pub mod Gives
 pub mod Layers
 pub mod Spells
+pub mod TypeGives
+pub mod TypeLayers
+pub mod TypeSpells
 pub mod Words
