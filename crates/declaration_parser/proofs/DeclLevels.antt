@@ -1,4 +1,5 @@
--- The laws of simple types, types and declarations at every level, and of each two levels that come one after the other.
+-- The laws of types and declarations at every level, and of each two levels that come one after the other; and those of
+-- headings.
 use Rattle.std.specs.Prelude.{ℕ, zero, suc, Bool, true, false, []}
 use Rattle.std.proofs.Common.{refl}
 use Rattle.pascal_tree.specs.declared.typing.TypeText.{TypeText}
@@ -24,7 +25,9 @@ TypeLaws d = One [] type_first (type_in d) (type_at d) Nothing (Any type_ends) �
 abbrev pub DeclLaws : ℕ → Type 0
 DeclLaws d = One [] decl_first (decl d) (decl_at d) Nothing (Any decl_ends) × Local (decl d)
 
-abbrev simple_next : (d : ℕ) → Rule Alone true [] simple_first (λ i. simple_in (suc d)) (λ i. simple_at (suc d)) Nothing (Any simple_ends)
+abbrev simple_next : (d : ℕ)
+    → Rule Alone true [] simple_first (λ i. simple_in (suc d)) (λ i. simple_at (suc d)) Nothing
+    (Any simple_ends)
 unfolding simple_in simple_at
 simple_next d = simple_rule
 
@@ -33,10 +36,12 @@ unfolding simple_in simple_at
 simple_laws zero = (stop_one Deep [] simple_first Nothing (Any simple_ends), stop_local Deep)
 simple_laws (suc d) = ((simple_next d).laws tt, (simple_next d).local tt)
 
-abbrev type_next : (d : ℕ) → TypeLaws d → Rule Alone true [] type_first (λ i. type_in (suc d)) (λ i. type_at (suc d)) Nothing (Any type_ends)
+abbrev type_next : (d : ℕ) → TypeLaws d
+    → Rule Alone true [] type_first (λ i. type_in (suc d)) (λ i. type_at (suc d)) Nothing (Any type_ends)
 unfolding type_in type_at
 type_next d t =
-    type_rule (λ i. simple_in d) (λ i. type_in d) (λ i. simple_at d) (λ i. type_at d) (alone_rule (simple_laws d).0 (simple_laws d).1) (alone_rule t.0 t.1)
+    type_rule (λ i. simple_in d) (λ i. type_in d) (λ i. simple_at d) (λ i. type_at d)
+    (alone_rule (simple_laws d).0 (simple_laws d).1) (alone_rule t.0 t.1)
 
 pub type_laws : (d : ℕ) → TypeLaws d
 unfolding type_in type_at
@@ -79,18 +84,26 @@ simple_steady : (d : ℕ) → Steady (simple_in d) (simple_in (suc d))
 unfolding simple_in
 simple_steady zero = deep_steady (simple_in (suc zero)) (simple_laws (suc zero)).1 (simple_slow zero)
 simple_steady (suc d) =
-    let r : Rule Pair true [] simple_first _ _ Nothing (Any simple_ends) = simple_rule in r.steady false true (refl, refl)
+    let r : Rule Pair true [] simple_first _ _ Nothing (Any simple_ends) =
+    simple_rule in r.steady false true (refl, refl)
 
 simple_pair : (d : ℕ) → Rule Pair false [] simple_first (simples d) (simple_forms d) Nothing (Any simple_ends)
-simple_pair d = pair_rule (simples d) (simple_forms d) (simple_laws d).0 (simple_laws d).1 (simple_laws (suc d)).0 (simple_laws (suc d)).1 (simple_slow d) (simple_steady d)
+simple_pair d =
+    pair_rule (simples d) (simple_forms d) (simple_laws d).0 (simple_laws d).1 (simple_laws (suc d)).0
+    (simple_laws (suc d)).1 (simple_slow d) (simple_steady d)
 
-type_pair_of : (d : ℕ) → Steady (type_in d) (type_in (suc d)) → Rule Pair false [] type_first (types d) (type_forms d) Nothing (Any type_ends)
-type_pair_of d s = pair_rule (types d) (type_forms d) (type_laws d).0 (type_laws d).1 (type_laws (suc d)).0 (type_laws (suc d)).1 (type_slow d) s
+type_pair_of : (d : ℕ) → Steady (type_in d) (type_in (suc d))
+    → Rule Pair false [] type_first (types d) (type_forms d) Nothing (Any type_ends)
+type_pair_of d s =
+    pair_rule (types d) (type_forms d) (type_laws d).0 (type_laws d).1 (type_laws (suc d)).0
+    (type_laws (suc d)).1 (type_slow d) s
 
 pub type_steady : (d : ℕ) → Steady (type_in d) (type_in (suc d))
 unfolding type_in
 type_steady zero = deep_steady (type_in (suc zero)) (type_laws (suc zero)).1 (type_slow zero)
-type_steady (suc d) = (type_rule (simples d) (types d) (simple_forms d) (type_forms d) (simple_pair d) (type_pair_of d (type_steady d))).steady false true (refl, refl)
+type_steady (suc d) =
+    (type_rule (simples d) (types d) (simple_forms d) (type_forms d) (simple_pair d)
+    (type_pair_of d (type_steady d))).steady false true (refl, refl)
 
 pub type_pair : (d : ℕ) → Rule Pair false [] type_first (types d) (type_forms d) Nothing (Any type_ends)
 type_pair d = type_pair_of d (type_steady d)
@@ -102,8 +115,11 @@ decl_steady d = (decl_rule (types d) (type_forms d) (type_pair d)).steady false 
 -- ---- headings have no levels
 
 pub heading_laws : One [] heading_first heading heading_form Nothing (Any decl_ends) × Local heading
-heading_laws = let r : Rule Alone true [] heading_first (λ i. heading) (λ i. heading_form) Nothing (Any decl_ends) = heading_rule in (r.laws tt, r.local tt)
+heading_laws =
+    let r : Rule Alone true [] heading_first (λ i. heading) (λ i. heading_form) Nothing (Any decl_ends) =
+    heading_rule in (r.laws tt, r.local tt)
 
 pub heading_steady : Steady heading heading
 heading_steady =
-    let r : Rule Pair true [] heading_first (λ i. heading) (λ i. heading_form) Nothing (Any decl_ends) = heading_rule in r.steady false true (refl, refl)
+    let r : Rule Pair true [] heading_first (λ i. heading) (λ i. heading_form) Nothing (Any decl_ends) =
+    heading_rule in r.steady false true (refl, refl)

@@ -1,2 +1,3 @@
 pub mod DeclLevels
 pub mod DeclRules
+pub mod Further

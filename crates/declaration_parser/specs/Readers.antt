@@ -1,5 +1,6 @@
--- Constants (ISO 7185:1990, 6.3), types (6.4), declarations (6.2.1) and headings (6.6.1, 6.6.2), read from left to right.
-use Rattle.std.specs.Prelude.{ℕ, zero, suc, Bool, true, false, List, [], ◌∷◌, Option, Some, None}
+-- Constants (ISO 7185:1990, 6.3), types (6.4), declarations (6.2.1) and headings (6.6.1, 6.6.2), read from left to
+-- right.
+use Rattle.std.specs.Prelude.{ℕ, zero, suc, Bool, true, false, List, [], ◌∷◌, Some, None}
 use Rattle.dice_base.specs.Tokens.{Classes, operator_of, keys}
 use Rattle.token_reader.specs.Readers.{Parser, ◌>>=◌, ◌>>◌, pure, deep, one, by, on, expect, ident, number, string, separated, ended}
 use Rattle.pascal_tree.specs.declared.expr.Prefix.{Prefix}

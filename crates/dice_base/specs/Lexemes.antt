@@ -90,16 +90,18 @@ named w = named_by (word_symbol (map lower w)) (map lower w)
 pub data Lexeme : List ℕ → TokenKind → Type 0 where
   word : (c : ℕ) (cs : List ℕ) → class c ≡ Letter → AllByRecursion (λ b. word_byte b ≡ true) cs → Lexeme (c ∷ cs) (named (c ∷ cs))
   number : (c : ℕ) (cs : List ℕ) → class c ≡ Digit → AllByRecursion (λ b. digit_byte b ≡ true) cs → value_of (c ∷ cs) ≤ largest_number → Lexeme (c ∷ cs) (Number (value_of (c ∷ cs)))
-  string : (cs : List ℕ) → 0 < length cs → AllByRecursion (λ b. string_byte b ≡ true) cs → Lexeme (39 ∷ doubled_apostrophes cs ++ 39 ∷ []) (Str cs)
+  string : (cs : List ℕ) → 0 < length cs → AllByRecursion (λ b. string_byte b ≡ true) cs
+      → Lexeme (39 ∷ doubled_apostrophes cs ++ 39 ∷ []) (Str cs)
   sign : (w : List ℕ) (k : ℕ) → sign_of w ≡ Some k → Lexeme w (Sign k)
   alternative : (w : List ℕ) (k : ℕ) → alternative_of w ≡ Some k → Lexeme w (Sign k)
   hole : Lexeme (35 ∷ []) Hole
 
--- what opens a comment, and what closes it (6.1.8)
+-- what opens a comment (6.1.8)
 pub data Opens : List ℕ → Type 0 where
   brace_opens : Opens (codes "{")
   star_opens : Opens (codes "(*")
 
+-- what closes a comment; it need not match what opened it
 pub data Closes : List ℕ → Type 0 where
   brace_closes : Closes (codes "}")
   star_closes : Closes (codes "*)")

@@ -7,28 +7,34 @@ use Rattle.dice_base.specs.Forms.{Form}
 use Rattle.token_reader.specs.declared.stop.Stop.TheVariants.{Deep}
 use Rattle.token_reader.proofs.Laws.{One, Local, stop_one, stop_local}
 use Rattle.token_reader.proofs.Levels.{Slow, Steady, deep_steady}
-use Rattle.token_reader.proofs.Rules.{Rule, Nothing, Alone, Pair, alone_rule, pair_rule}
+use Rattle.token_reader.proofs.Rules.{Nothing, Alone, Pair, alone_rule, pair_rule}
 use Rattle.pascal_tree.specs.Expressions.{expr_at, factor_at}
 use Rattle.expression_parser.specs.Readers.{Inner, inside}
 use Rattle.expression_parser.specs.Follows.{Any, expr_ends, factor_ends, factor_first, expr_first}
-use Rattle.expression_parser.proofs.ExprRules.{expr_rule, factor_rule}
+use Rattle.expression_parser.proofs.ExprRules.{Plain, expr_rule, factor_rule}
 
 -- ---- one level
 
 abbrev pub ExprLaws : ℕ → Type 0
-ExprLaws d = One [] expr_first ((inside d).expr) (expr_at d) Nothing (Any expr_ends) × Local ((inside d).expr)
+ExprLaws d =
+    One [] expr_first ((inside d).expr) (expr_at d) Nothing (Any expr_ends) × Local ((inside d).expr)
 
 abbrev pub FactorLaws : ℕ → Type 0
-FactorLaws d = One [] factor_first ((inside d).factor) (factor_at d) Nothing (Any factor_ends) × Local ((inside d).factor)
+FactorLaws d =
+    One [] factor_first ((inside d).factor) (factor_at d) Nothing (Any factor_ends) × Local ((inside d).factor)
 
 -- the rules of one level, over the laws of the level further in
-abbrev expr_next : (d : ℕ) → ExprLaws d → FactorLaws d → Rule Alone true [] expr_first (λ i. (inside (suc d)).expr) (λ i. expr_at (suc d)) Nothing (Any expr_ends)
+abbrev expr_next : (d : ℕ) → ExprLaws d → FactorLaws d
+    → Plain Alone true expr_first (λ i. (inside (suc d)).expr) (λ i. expr_at (suc d)) expr_ends
 unfolding inside expr_at factor_at
-expr_next d e f = expr_rule (λ i. inside d) (λ i. expr_at d) (λ i. factor_at d) (alone_rule e.0 e.1) (alone_rule f.0 f.1)
+expr_next d e f =
+    expr_rule (λ i. inside d) (λ i. expr_at d) (λ i. factor_at d) (alone_rule e.0 e.1) (alone_rule f.0 f.1)
 
-abbrev factor_next : (d : ℕ) → ExprLaws d → FactorLaws d → Rule Alone true [] factor_first (λ i. (inside (suc d)).factor) (λ i. factor_at (suc d)) Nothing (Any factor_ends)
+abbrev factor_next : (d : ℕ) → ExprLaws d → FactorLaws d
+    → Plain Alone true factor_first (λ i. (inside (suc d)).factor) (λ i. factor_at (suc d)) factor_ends
 unfolding inside expr_at factor_at
-factor_next d e f = factor_rule (λ i. inside d) (λ i. expr_at d) (λ i. factor_at d) (alone_rule e.0 e.1) (alone_rule f.0 f.1)
+factor_next d e f =
+    factor_rule (λ i. inside d) (λ i. expr_at d) (λ i. factor_at d) (alone_rule e.0 e.1) (alone_rule f.0 f.1)
 
 mutual
   unfolding inside expr_at factor_at
@@ -62,19 +68,33 @@ abbrev pub factors : ℕ → Bool → Form Factor
 factors d false = factor_at d
 factors d true = factor_at (suc d)
 
-pub expr_pair : (d : ℕ) → Steady ((inside d).expr) ((inside (suc d)).expr) → Rule Pair false [] expr_first (λ i. (inners d i).expr) (exprs d) Nothing (Any expr_ends)
-expr_pair d s = pair_rule (λ i. (inners d i).expr) (exprs d) (expr_laws d).0 (expr_laws d).1 (expr_laws (suc d)).0 (expr_laws (suc d)).1 (expr_slow d) s
+pub expr_pair : (d : ℕ) → Steady ((inside d).expr) ((inside (suc d)).expr)
+    → Plain Pair false expr_first (λ i. (inners d i).expr) (exprs d) expr_ends
+expr_pair d s =
+    let (low, low_local) = expr_laws d in
+    let (high, high_local) = expr_laws (suc d) in
+    pair_rule (λ i. (inners d i).expr) (exprs d) low low_local high high_local (expr_slow d) s
 
-pub factor_pair : (d : ℕ) → Steady ((inside d).factor) ((inside (suc d)).factor) → Rule Pair false [] factor_first (λ i. (inners d i).factor) (factors d) Nothing (Any factor_ends)
-factor_pair d s = pair_rule (λ i. (inners d i).factor) (factors d) (factor_laws d).0 (factor_laws d).1 (factor_laws (suc d)).0 (factor_laws (suc d)).1 (factor_slow d) s
+pub factor_pair : (d : ℕ) → Steady ((inside d).factor) ((inside (suc d)).factor)
+    → Plain Pair false factor_first (λ i. (inners d i).factor) (factors d) factor_ends
+factor_pair d s =
+    let (low, low_local) = factor_laws d in
+    let (high, high_local) = factor_laws (suc d) in
+    pair_rule (λ i. (inners d i).factor) (factors d) low low_local high high_local (factor_slow d) s
 
 mutual
   unfolding inside
 
   pub expr_steady : (d : ℕ) → Steady ((inside d).expr) ((inside (suc d)).expr)
   expr_steady zero = deep_steady ((inside (suc zero)).expr) (expr_laws (suc zero)).1 (expr_slow zero)
-  expr_steady (suc d) = (expr_rule (inners d) (exprs d) (factors d) (expr_pair d (expr_steady d)) (factor_pair d (factor_steady d))).steady false true (refl, refl)
+  expr_steady (suc d) =
+      let e = expr_pair d (expr_steady d) in
+      let f = factor_pair d (factor_steady d) in
+      (expr_rule (inners d) (exprs d) (factors d) e f).steady false true (refl, refl)
 
   pub factor_steady : (d : ℕ) → Steady ((inside d).factor) ((inside (suc d)).factor)
   factor_steady zero = deep_steady ((inside (suc zero)).factor) (factor_laws (suc zero)).1 (factor_slow zero)
-  factor_steady (suc d) = (factor_rule (inners d) (exprs d) (factors d) (expr_pair d (expr_steady d)) (factor_pair d (factor_steady d))).steady false true (refl, refl)
+  factor_steady (suc d) =
+      let e = expr_pair d (expr_steady d) in
+      let f = factor_pair d (factor_steady d) in
+      (factor_rule (inners d) (exprs d) (factors d) e f).steady false true (refl, refl)

@@ -1,2 +1,3 @@
 pub mod ExprLevels
 pub mod ExprRules
+pub mod Levels

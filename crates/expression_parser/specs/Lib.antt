@@ -1,2 +1,3 @@
 pub mod Follows
+pub mod Nests
 pub mod Readers

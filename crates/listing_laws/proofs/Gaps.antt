@@ -6,20 +6,23 @@ use Rattle.dice_base.specs.declared.byte.ByteClass.TheVariants.{Letter, Digit, S
 use Rattle.dice_base.specs.declared.token.TokenKind.{TokenKind}
 use Rattle.dice_base.specs.declared.token.TokenKind.TheVariants.{Word, Ident, Number, Str, Sign, Hole}
 use Rattle.dice_base.specs.declared.symbols.TheConstants.{SIGNS}
-use Rattle.dice_base.specs.Lexemes.{class, is_letter, is_digit, word_byte, digit_byte, sign_of, Lexeme, word, number, sign, hole, opens_comment, MayFollow, Takes, blank, LexesTo, ends, skips, takes}
-use Rattle.pascal_scanner.proofs.Signs.{found_passes}
-use Rattle.pascal_scanner.proofs.Takes.{lexeme-some, no_comment}
+use Rattle.dice_base.specs.Lexemes.{class, is_letter, is_digit, word_byte, digit_byte, doubled_apostrophes, sign_of, alternative_of, Lexeme, word, number, string, sign, alternative, hole, opens_comment, opens_string, string_byte, MayFollow, Takes, blank, LexesTo, ends, skips, takes}
+use Rattle.pascal_scanner.proofs.Signs.{some, found_passes, by_alternative}
+use Rattle.pascal_scanner.proofs.Classes.{lexeme_front, string_lexeme}
+use Rattle.pascal_scanner.proofs.Comments.{no_comment}
+use Rattle.pascal_scanner.proofs.Strings.{string_plain, string_longest}
+use Rattle.pascal_scanner.proofs.Takes.{lexeme-some}
 
--- ---- bytes that are no separators
+-- ---- bytes that are no separators, outside strings
 
-abbrev is_solid : ByteClass → Bool
+abbrev pub is_solid : ByteClass → Bool
 is_solid Separator = false
 is_solid _ = true
 
-abbrev solid : ℕ → Bool
+abbrev pub solid : ℕ → Bool
 solid c = is_solid (class c)
 
-abbrev all_solid : List ℕ → Bool
+abbrev pub all_solid : List ℕ → Bool
 all_solid [] = true
 all_solid (c ∷ w) = solid c && all_solid w
 
@@ -43,15 +46,27 @@ digits-solid : (w : List ℕ) → AllByRecursion (λ b. digit_byte b ≡ true) w
 digits-solid [] each = refl
 digits-solid (c ∷ w) each = rw (digit-solid (class c) each.0) (digits-solid w each.1)
 
--- no separator stands in a token
-lexeme-solid : (w : List ℕ) (t : TokenKind) → Lexeme w t → all_solid w ≡ true
+-- a token is a string, or no separator stands in it
+pub data IsSolid (w : List ℕ) : Type 0 where
+  quoted : (cs : List ℕ) → AllByRecursion (λ b. string_byte b ≡ true) cs → w ≡ 39 ∷ doubled_apostrophes cs ++ 39 ∷ [] → IsSolid w
+  solid_all : all_solid w ≡ true → IsSolid w
+
+alternative-solid : (w : List ℕ) (k : ℕ) → alternative_of w ≡ some k → all_solid w ≡ true
+alternative-solid = by_alternative (λ w o. all_solid w ≡ true) refl refl refl
+
+pub lexeme-solid : (w : List ℕ) (t : TokenKind) → Lexeme w t → IsSolid w
 unfolding sign_of
-lexeme-solid w t (word c cs is each) = rw is (words-solid cs each)
-lexeme-solid w t (number c cs is each low) = rw is (digits-solid cs each)
-lexeme-solid w t (sign v k e) = found_passes all_solid w 0 (map (λ s. s.now) SIGNS) k e refl
-lexeme-solid w t hole = refl
+lexeme-solid w t (word c cs is each) = solid_all (rw is (words-solid cs each))
+lexeme-solid w t (number c cs is each low) = solid_all (rw is (digits-solid cs each))
+lexeme-solid w t (string cs some each) = quoted cs each refl
+lexeme-solid w t (sign v k e) = solid_all (found_passes all_solid w 0 (map (λ s. s.now) SIGNS) k e refl)
+lexeme-solid w t (alternative v k e) = solid_all (alternative-solid w k e)
+lexeme-solid w t hole = solid_all refl
 
 -- no comment opens with a token
+alternative-plain : (w : List ℕ) (k : ℕ) → alternative_of w ≡ some k → opens_comment w ≡ false
+alternative-plain = by_alternative (λ w o. opens_comment w ≡ false) refl refl refl
+
 lexeme-plain : (w : List ℕ) (t : TokenKind) → Lexeme w t → opens_comment w ≡ false
 unfolding sign_of
 lexeme-plain w t (word c cs is each) = no_comment c cs Letter is (λ bad. absurd cc)
@@ -60,6 +75,8 @@ lexeme-plain w t (sign v k e) = negated (opens_comment w) (found_passes (λ s. n
   negated : (b : Bool) → not b ≡ true → b ≡ false
   negated true e = absurd cc
   negated false e = refl
+lexeme-plain w t (string cs some each) = string_plain (doubled_apostrophes cs ++ 39 ∷ [])
+lexeme-plain w t (alternative v k e) = alternative-plain w k e
 lexeme-plain w t hole = refl
 
 -- ---- a separator behind a token
@@ -91,6 +108,27 @@ within (c ∷ w) (d ∷ v) rest r gap e s =
     let more : w ++ rest ≡ v ++ r = cc in
     omega (arith, within w v rest r gap more (both (solid d) (all_solid v) s).1)
 
+gap-quote : (rest : List ℕ) → OpensGap rest → opens_string rest ≡ false
+gap-quote [] gap = refl
+gap-quote (d ∷ rest) gap = go (d == 39) refl where
+  go : (b : Bool) → (d == 39) ≡ b → b ≡ false
+  go true e = let bad : Mark ≡ Separator = sym (ap class (eqb-true d 39 e)) ∙ gap in absurd cc
+  go false e = refl
+
+-- nor does a longer token begin where one stands in front of a separator
+no_longer : (w v rest r : List ℕ) (t u : TokenKind) → Lexeme w t → Lexeme v u → OpensGap rest → w ++ rest ≡ v ++ r → length v ≤ length w
+no_longer w v rest r t u l m gap e = go (lexeme-solid v u m) where
+  go : IsSolid v → length v ≤ length w
+  go (solid_all s) = within w v rest r gap e s
+  go (quoted cs each is) =
+      -- then the first token is a string too
+      let f = lexeme_front 39 (doubled_apostrophes cs ++ 39 ∷ r) w rest t (sym (e ∙ ap (λ (x : List ℕ). x ++ r) is ∙ ap (λ (x : List ℕ). 39 ∷ x) (append_assoc (doubled_apostrophes cs) (39 ∷ []) r))) l in
+      let s = string_lexeme f.0 t f.3 in
+      let first : w ≡ 39 ∷ doubled_apostrophes s.characters ++ 39 ∷ [] = f.1 ∙ ap (λ (x : List ℕ). 39 ∷ x) s.parts in
+      let whole : 39 ∷ (doubled_apostrophes s.characters ++ 39 ∷ rest) ≡ v ++ r =
+      sym (ap (λ (x : List ℕ). x ++ rest) first ∙ ap (λ (x : List ℕ). 39 ∷ x) (append_assoc (doubled_apostrophes s.characters) (39 ∷ []) rest)) ∙ e in
+      rw first (string_longest s.characters rest v r u s.each (gap-quote rest gap) whole m)
+
 gap-star : (d : ℕ) → class d ≡ Separator → (d == 42) ≡ false
 gap-star d is = go (d == 42) refl where
   go : (b : Bool) → (d == 42) ≡ b → b ≡ false
@@ -112,7 +150,7 @@ follows-gap (Number n) [] gap = tt
 follows-gap (Number n) (c ∷ rest) gap = rw gap refl
 follows-gap (Word k) rest gap = tt
 follows-gap (Ident x) rest gap = tt
-follows-gap (Str x) rest gap = tt
+follows-gap (Str x) rest gap = gap-quote rest gap
 follows-gap (Sign k) rest gap = tt
 follows-gap Hole rest gap = tt
 
@@ -122,7 +160,7 @@ gap_takes w rest t l gap = record {
   lexeme = w;
   parts = refl;
   is = l;
-  longest = λ v r u e m. within w v rest r gap e (lexeme-solid v u m);
+  longest = λ v r u e m. no_longer w v rest r t u l m gap e;
   follows = follows-gap t rest gap;
   plain = plain-behind w rest (lexeme-some w t l) (lexeme-plain w t l) gap;
 }

@@ -15,6 +15,7 @@ use Rattle.pascal_print.specs.declared.event.Event.TheVariants.{Item, Part, Back
 use Rattle.pascal_print.specs.declared.event.Line.{Line}
 use Rattle.pascal_print.specs.Events.{Laid, tokens_of, in_kind, in_arm, in_stmt, stmt_events, kind_events, arm_events, program_events, program_tokens, statement_tokens}
 use Rattle.pascal_print.specs.Listing.{closes, begins, on_line, rest_of, listing_lines, blanks, spellings_after_blanks, spellings_of, plain_line, text_of_lines, listing, statement_listing}
+use Rattle.own_tokens.proofs.Written.{all-left, all-right}
 use Rattle.listing_laws.proofs.Gaps.{OpensGap, Spaced, nothing, gap, puts}
 use Rattle.listing_laws.proofs.Spellings.{IsSpelt}
 
@@ -54,23 +55,15 @@ line-spaced level (t ∷ ts) text us each s =
 
 -- ---- all lines
 
-abbrev tokens_in : List Line → Toks
+abbrev pub tokens_in : List Line → Toks
 tokens_in [] = []
 tokens_in (line ∷ lines) = line.tokens ++ tokens_in lines
-
-spelt-left : (ts us : Toks) → AreSpelt (ts ++ us) → AreSpelt ts
-spelt-left [] us each = tt
-spelt-left (t ∷ ts) us each = (each.0, spelt-left ts us each.1)
-
-spelt-right : (ts us : Toks) → AreSpelt (ts ++ us) → AreSpelt us
-spelt-right [] us each = each
-spelt-right (t ∷ ts) us each = spelt-right ts us each.1
 
 lines-spaced : (lines : List Line) → AreSpelt (tokens_in lines) → Spaced (text_of_lines false lines) (tokens_in lines)
 lines-spaced [] each = nothing
 lines-spaced (line ∷ lines) each =
-    line-spaced line.level line.tokens (text_of_lines false lines) (tokens_in lines) (spelt-left line.tokens (tokens_in lines) each)
-    (lines-spaced lines (spelt-right line.tokens (tokens_in lines) each))
+    line-spaced line.level line.tokens (text_of_lines false lines) (tokens_in lines) (all-left IsSpelt line.tokens (tokens_in lines) each)
+    (lines-spaced lines (all-right IsSpelt line.tokens (tokens_in lines) each))
 
 abbrev goes_on : TokenKind → List Event → ℕ → Bool → Toks × List Line
 goes_on t es level b = cond b (on_line t (rest_of es (Some level))) (begins None level (on_line t (rest_of es None)))
@@ -88,7 +81,7 @@ rest-tokens (Token t ∷ es) (Some level) = go (closes t) (rest-tokens es None) 
   go true fresh known = ap (λ (ts : Toks). t ∷ ts) known
   go false fresh known = ap (λ (ts : Toks). t ∷ ts) fresh
 
-lines-tokens : (p : Tree) → tokens_in (listing_lines (program_events p)) ≡ program_tokens p
+pub lines-tokens : (p : Tree) → tokens_in (listing_lines (program_events p)) ≡ program_tokens p
 lines-tokens p = rest-tokens (program_events p) None
 
 -- where each token is read again as it is spelt

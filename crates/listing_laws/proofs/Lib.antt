@@ -1,12 +1,8 @@
-pub mod Classes
-pub mod Events
-mod Examples
-pub mod ExprTokens
+pub mod Column
+pub mod Folds
 pub mod Gaps
 pub mod Layouts
-pub mod Numbered
-pub mod ProgramTokens
+pub mod ListedNames
 pub mod ReadsBack
 pub mod Spellings
-pub mod Trees
 pub mod Unnamed

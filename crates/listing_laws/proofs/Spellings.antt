@@ -1,5 +1,5 @@
 -- The tokens of a text, written in the one way that a listing writes them, are the same tokens.
-use Rattle.std.proofs.Common.{◌≡◌, ℕ, suc, ◌+◌, ◌^◌, ◌≤◌, ◌<◌, Bool, true, false, cond, ◌&&◌, ◌||◌, ◌==◌, List, [], ◌∷◌, length, map, get_or, None, Some, refl, sym, ap, subst, ◌∙◌, arith, leb, leb-true, le-leb}
+use Rattle.std.proofs.Common.{◌≡◌, ℕ, suc, ◌+◌, ◌^◌, ◌≤◌, ◌<◌, Bool, true, false, cond, ◌&&◌, ◌||◌, ◌==◌, List, [], ◌∷◌, length, map, codes, get_or, None, Some, refl, sym, ap, subst, ◌∙◌, arith, leb, leb-true, le-leb}
 use Rattle.std.proofs.lemmas.Bool.{lt-leb}
 use Rattle.std.specs.declared.option.Option.{Option}
 use Rattle.std.specs.List.{AllByRecursion, position_from}
@@ -14,10 +14,10 @@ use Rattle.dice_base.specs.declared.byte.ByteClass.TheVariants.{Letter, Digit, S
 use Rattle.dice_base.specs.declared.token.TokenKind.{TokenKind}
 use Rattle.dice_base.specs.declared.token.TokenKind.TheVariants.{Number, Sign}
 use Rattle.dice_base.specs.declared.symbols.TheConstants.{WORD_SYMBOLS, SIGNS}
-use Rattle.dice_base.specs.Lexemes.{class, is_digit, word_byte, digit_byte, value_from, value_of, word_symbol, lower, named_by, named, sign_of, Lexeme, word, number, sign, hole, LexesTo, ends, skips, takes}
+use Rattle.dice_base.specs.Lexemes.{class, is_digit, word_byte, digit_byte, value_from, value_of, doubled_apostrophes, word_symbol, lower, named_by, named, sign_of, alternative_of, Lexeme, word, number, string, sign, alternative, hole, LexesTo, ends, skips, takes}
 use Rattle.tree_text.specs.Spelling as spelling
 use Rattle.tree_text.specs.Spelling.{spelling_of}
-use Rattle.pascal_scanner.proofs.Signs.{some}
+use Rattle.pascal_scanner.proofs.Signs.{some, by_alternative}
 
 -- ---- the place of a text in a table
 
@@ -123,7 +123,7 @@ digit-range c e =
 range-digit : (c : ℕ) → IsInRange 48 57 c → digit_byte c ≡ true
 range-digit c r = rw (lt-leb 65 c (omega arith), lt-leb 97 c (omega arith), le-leb 48 c r.0, le-leb c 57 r.1) refl
 
-numerals : IsNumeralModel (AllByRecursion (λ b. digit_byte b ≡ true)) value_of
+pub numerals : IsNumeralModel (AllByRecursion (λ b. digit_byte b ≡ true)) value_of
 numerals = numerals_by_fold _ (record {
   empty = tt;
   parts = λ c cs p. (digit-range c p.0, p.1);
@@ -144,6 +144,16 @@ digits_lexeme [] n some each is low = absurd (omega (arith, some))
 digits_lexeme (c ∷ cs) n some each is low =
     subst (λ m. Lexeme (c ∷ cs) (Number m)) is (number c cs (digit_class (class c) each.0) each.1 (rw is low))
 
+-- ---- alternative tokens
+
+-- the sign that an alternative token is has a spelling of its own
+alternative-spelt : (w : List ℕ) (k : ℕ) → alternative_of w ≡ some k → sign_of (spelling.sign_spelling k) ≡ some k
+alternative-spelt w k e =
+    by_alternative (λ v o. (j : ℕ) → o ≡ some j → sign_of (spelling.sign_spelling j) ≡ some j) (again (codes "^")) (again (codes "[")) (again (codes "]")) w k e k refl
+  where
+    again : (v : List ℕ) (j : ℕ) → sign_of v ≡ some j → sign_of (spelling.sign_spelling j) ≡ some j
+    again v j is = ap sign_of (sign-spelling v j is) ∙ is
+
 -- ---- tokens
 
 abbrev pub IsSpelt : TokenKind → Type 0
@@ -158,6 +168,8 @@ lexeme-spelt w t (number c cs is each low) =
     let small : value_of (c ∷ cs) < 2 ^ 64 = omega (arith, low) in
     digits_lexeme (decimal (value_of (c ∷ cs))) (value_of (c ∷ cs)) (decimal_nonempty (value_of (c ∷ cs)) small) (digits_decimal numerals (value_of (c ∷ cs)) small) (digits_value-decimal numerals (value_of (c ∷ cs)) small) low
 lexeme-spelt w t (sign v k e) = subst (λ (u : List ℕ). Lexeme u (Sign k)) (sym (sign-spelling v k e)) (sign v k e)
+lexeme-spelt w t (string cs more each) = string cs more each
+lexeme-spelt w t (alternative v k e) = sign (spelling.sign_spelling k) k (alternative-spelt v k e)
 lexeme-spelt w t hole = hole
 
 -- each token of a text is read again as it is spelt

@@ -1,2 +1,2 @@
 pub mod ReadsBack
-pub mod Unnamed
+pub mod FirstColumn

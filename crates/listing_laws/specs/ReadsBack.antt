@@ -1,34 +1,32 @@
--- A text that is read back as the program that it was written from.
-use Rattle.std.specs.Prelude.{◌≡◌, ℕ, List}
+-- A text that is read back as the program, or the statement, that it was written from.
+use Rattle.std.specs.Prelude.{◌≡◌, ℕ, Bool, List}
 use Rattle.dice_base.specs.Lexemes.{Lexes}
+use Rattle.dice_base.specs.Tokens.{Toks}
 use Rattle.pascal_tree.specs.declared.stmt.Stmt.{Stmt}
 use Rattle.pascal_tree.specs.declared.program.Tree.{Tree}
-use Rattle.dice_base.specs.Tokens.{Toks}
 use Rattle.pascal_tree.specs.Statements.{stmt_at}
 use Rattle.pascal_tree.specs.Programs.{Derives}
-use Rattle.listing_laws.specs.Unnamed.{unnamed_stmt, unnamed_program}
+use Rattle.pascal_tree.specs.Unnamed.{unnamed_stmt, unnamed_program}
+use Rattle.pascal_tree.specs.Sources.{HasSource, HasStatementSource}
+use Rattle.pascal_print.specs.Events.{program_tokens, statement_tokens}
 
--- the text has these tokens, and this tree alone derives the tokens of the text
+-- the text has these tokens, they derive this tree, and no other tree is derived by tokens that the text has
 pub record IsListingOf (text : List ℕ) (tokens : Toks) (tree : Tree) : Type 0 where
   pub lexes : Lexes text tokens
   pub derives : Derives tree tokens
   pub only : (us : Toks) (other : Tree) → Lexes text us → Derives other us → other ≡ tree
 
--- wherever some source text has tokens that the program, names aside, derives, this text has the same tokens, and they
--- derive nothing else
+-- of a program that some text spells, this text has the program's own tokens, and is read as this program, names aside
 abbrev pub ReadsBack : Tree → List ℕ → Type 0
-ReadsBack p text =
-    (source : List ℕ) (tokens : Toks) → Lexes source tokens → Derives (unnamed_program p) tokens
-    → IsListingOf text tokens (unnamed_program p)
+ReadsBack p text = HasSource p → IsListingOf text (program_tokens p) (unnamed_program p)
 
--- the same of a statement with at most this many levels
-pub record IsStatementListingOf (levels : ℕ) (text : List ℕ) (tokens : Toks) (tree : Stmt) : Type 0 where
+-- the same of a statement with at most so many levels, open or not
+pub record IsStatementListingOf (levels : ℕ) (text : List ℕ) (tokens : Toks) (tree : Stmt) (flag : Bool) : Type 0 where
   pub lexes : Lexes text tokens
-  pub derives : stmt_at levels tree tt tokens
-  pub only : (us : Toks) (other : Stmt) → Lexes text us → stmt_at levels other tt us → other ≡ tree
+  pub derives : (stmt_at levels).full tree flag tokens
+  pub only : (us : Toks) (other : Stmt) (w : Bool) → Lexes text us → (stmt_at levels).full other w us → other ≡ tree
 
--- the same as ReadsBack, of a statement
 abbrev pub StatementReadsBack : Stmt → List ℕ → Type 0
-StatementReadsBack x text =
-    (levels : ℕ) (source : List ℕ) (tokens : Toks) → Lexes source tokens → stmt_at levels (unnamed_stmt x) tt tokens
-    → IsStatementListingOf levels text tokens (unnamed_stmt x)
+StatementReadsBack s text =
+    (levels : ℕ) (source : HasStatementSource levels s)
+    → IsStatementListingOf levels text (statement_tokens s) (unnamed_stmt s) source.flag

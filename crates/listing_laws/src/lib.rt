@@ -1,6 +1,2 @@
 //! That a program's listing without names is read back as the same program, names aside.
 #![tactic(auto)]
-
-mod print;
-
-pub use print::{print_plain, print_plain_statement};

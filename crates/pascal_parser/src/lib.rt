@@ -4,9 +4,11 @@
 //! the one tree that the tokens spell, or their fault (`IsReading` in token_reader, over the forms of pascal_tree).
 #![tactic(auto)]
 
-mod parts;
+mod decls;
+mod programs;
+mod stmts;
 
-pub use parts::{
-    parse_declaration, parse_header, parse_heading, parse_program, parse_routine, parse_statement,
-};
+pub use decls::{parse_declaration, parse_heading};
+pub use programs::{parse_program, parse_routine};
+pub use stmts::{parse_header, parse_statement};
 pub use token_reader::ParseFault;

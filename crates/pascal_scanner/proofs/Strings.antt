@@ -75,23 +75,26 @@ pub string_plain : (cs : List ℕ) → opens_comment (39 ∷ cs) ≡ false
 string_plain [] = refl
 string_plain (d ∷ cs) = refl
 
+-- no longer lexeme begins there
+pub string_longest : (a x w r : List ℕ) (u : TokenKind) → AreCharacters a → opens_string x ≡ false → 39 ∷ (doubled_apostrophes a ++ 39 ∷ x) ≡ w ++ r → Lexeme w u
+    → length w ≤ length (39 ∷ doubled_apostrophes a ++ 39 ∷ [])
+string_longest a x w r u each closed e l =
+    let f = lexeme_front 39 (doubled_apostrophes a ++ 39 ∷ x) w r u e l in
+    let s = string_lexeme f.0 u f.3 in
+    let same : doubled_apostrophes a ++ 39 ∷ x ≡ doubled_apostrophes s.characters ++ 39 ∷ r =
+    f.2 ∙ ap (λ (v : List ℕ). v ++ r) s.parts ∙ append_assoc (doubled_apostrophes s.characters) (39 ∷ []) r in
+    let short = doubled_longest a s.characters (39 ∷ x) (39 ∷ r) each s.each (element-closing x closed) same in
+    omega (arith, short, ap length f.1, ap length s.parts, length-append (doubled_apostrophes s.characters) (39 ∷ []), length-append (doubled_apostrophes a) (39 ∷ []))
+
 string_takes : (a x : List ℕ) → 0 < length a → AreCharacters a → opens_string x ≡ false → Takes (39 ∷ (doubled_apostrophes a ++ 39 ∷ x)) (Str a) x
 string_takes a x some each closed = record {
   lexeme = 39 ∷ doubled_apostrophes a ++ 39 ∷ [];
   parts = ap (λ (v : List ℕ). 39 ∷ v) (sym (append_assoc (doubled_apostrophes a) (39 ∷ []) x));
   is = string a some each;
-  longest = longest;
+  longest = λ w r u e l. string_longest a x w r u each closed e l;
   follows = closed;
   plain = string_plain (doubled_apostrophes a ++ 39 ∷ x);
-} where
-  longest : (w r : List ℕ) (u : TokenKind) → 39 ∷ (doubled_apostrophes a ++ 39 ∷ x) ≡ w ++ r → Lexeme w u → length w ≤ length (39 ∷ doubled_apostrophes a ++ 39 ∷ [])
-  longest w r u e l =
-      let f = lexeme_front 39 (doubled_apostrophes a ++ 39 ∷ x) w r u e l in
-      let s = string_lexeme f.0 u f.3 in
-      let same : doubled_apostrophes a ++ 39 ∷ x ≡ doubled_apostrophes s.characters ++ 39 ∷ r =
-      f.2 ∙ ap (λ (v : List ℕ). v ++ r) s.parts ∙ append_assoc (doubled_apostrophes s.characters) (39 ∷ []) r in
-      let short = doubled_longest a s.characters (39 ∷ x) (39 ∷ r) each s.each (element-closing x closed) same in
-      omega (arith, short, ap length f.1, ap length s.parts, length-append (doubled_apostrophes s.characters) (39 ∷ []), length-append (doubled_apostrophes a) (39 ∷ []))
+}
 
 no_string : (a tail : List ℕ) (t : TokenKind) (rest : List ℕ) → AreCharacters a → element_of tail ≡ nothing → (0 < length a → opens_string tail ≡ true → ⊥) → Takes (39 ∷ (doubled_apostrophes a ++ tail)) t rest → ⊥
 no_string a tail t rest each ends unclosed k =

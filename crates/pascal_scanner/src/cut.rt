@@ -62,15 +62,16 @@ fn read_on(
     }
 }
 
-/// Cuts a text into its tokens.
+/// Cuts a text into its tokens (ISO 7185:1990, 6.1), or says where and why it cannot be cut.
 pub fn scan(alloc: Global, text: &[u8]) -> Result<Vec<Token>, ScanFault>
     // The text is these tokens, and no others.
     ensures tokens { IfOk result (λ tokens. Lexes text.now (map (λ t. t.kind) tokens.items)) }
     ensures only { IfOk result (λ tokens. (list : List TokenKind) →
         Lexes text.now list → list ≡ map (λ t. t.kind) tokens.items) }
-    // Each stands where its span says.
+    // Each stands where its span says, with separators and comments alone between.
     ensures spans { IfOk result (λ tokens. Stand text.now tokens.items) }
     ensures long { IsErrOf result ScanFault.TextTooLong ↔ (MAX_TEXT_BYTES < length text.now) }
+    // The first place that is left, and why. A text has one fault with a place at most.
     ensures fault { IfErr result (λ e. Reports e text.now) }
 {
     if text.len() > MAX_TEXT_BYTES {

@@ -89,7 +89,8 @@ fn digits_len(text: &[u8]) -> usize
 
 // The value of digits, where it is no larger than a number may be.
 fn number_of(digits: &[u8]) -> Option<u16>
-    ensures { result ≡ (if nat_le (lex.value_of digits.now) lex.largest_number then Some (lex.value_of digits.now) else None) }
+    ensures { let value = lex.value_of digits.now in
+        result ≡ (if nat_le value lex.largest_number then Some value else None) }
 {
     let mut value: u32 = 0;
     for digit in digits {

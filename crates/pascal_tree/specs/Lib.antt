@@ -13,3 +13,5 @@ pub mod Naming
 pub mod Names
 pub mod Paths
 pub mod Rows
+pub mod Unnamed
+pub mod Sources

@@ -16,8 +16,8 @@ shuts false = []
 -- an empty statement begins with what follows it
 abbrev pub kind_first : Classes
 kind_first =
-    begin_class ∷ if_class ∷ case_class ∷ while_class ∷ repeat_class ∷ for_class ∷ with_class ∷ goto_class
-    ∷ ident_class ∷ follows false
+    begin_class ∷ if_class ∷ case_class ∷ while_class ∷ repeat_class ∷ for_class ∷ with_class
+    ∷ goto_class ∷ ident_class ∷ follows false
 
 abbrev pub stmt_first : Classes
 stmt_first = number_class ∷ kind_first

@@ -1,4 +1,4 @@
--- Statements (ISO 7185:1990, 6.8), headers of statements and bodies of blocks, read from left to right.
+-- Statements (ISO 7185:1990, 6.8), their headers and the bodies of blocks, read from left to right.
 use Rattle.std.specs.Prelude.{ℕ, zero, suc, List, [], ◌∷◌, ◌++◌, Some, None}
 use Rattle.dice_base.specs.Tokens.{Classes, operator_of}
 use Rattle.token_reader.specs.Readers.{Parser, ◌>>=◌, ◌>>◌, pure, deep, one, by, on, expect, ident, number, separated, ended}
@@ -16,7 +16,14 @@ use Rattle.declaration_parser.specs.Readers.{constant, constant_first}
 abbrev pub assign_first : Classes
 assign_first = part_first ++ becomes_class ∷ []
 
+-- ---- without substatements
+
+-- a goto statement (6.8.2.4)
+unfoldable pub goto_statement : Parser StmtKind
+goto_statement = expect goto_class >> (number >>= (λ n. pure (s.Goto n)))
+
 module _ (inner : Inner) where
+  -- an assignment (6.8.2.2), behind the identifier
   unfoldable pub assign : List ℕ → Parser StmtKind
   assign x = do
     a ← access_rest inner x
@@ -24,6 +31,7 @@ module _ (inner : Inner) where
     e ← expr inner
     pure (s.Assign a e)
 
+  -- a procedure statement (6.8.2.3), behind the identifier
   unfoldable pub call : List ℕ → Parser StmtKind
   call x = args inner >>= (λ args. pure (s.Call x args))
 
@@ -34,6 +42,7 @@ module _ (inner : Inner) where
 -- ---- over the reader of a statement one level further in
 
 module _ (stmt : Parser Stmt) where
+  -- a compound statement (6.8.3.2)
   unfoldable pub compound : Parser StmtKind
   compound = do
     expect begin_class
@@ -41,10 +50,11 @@ module _ (stmt : Parser Stmt) where
     expect end_class
     pure (s.Compound body)
 
-  -- behind the first branch: an `else` belongs to this `if`
+  -- behind the first branch: an `else` that comes next belongs to this `if`
   unfoldable pub else_part : Expr → Stmt → Parser StmtKind
   else_part c a = on else_class (stmt >>= (λ b. pure (s.If c a (Some b)))) (pure (s.If c a None))
 
+  -- constants, and the statement that they choose
   unfoldable pub arm : Parser Arm
   arm = do
     constants ← separated comma_class constant
@@ -52,10 +62,8 @@ module _ (stmt : Parser Stmt) where
     body ← stmt
     pure (make_arm constants body)
 
-unfoldable pub goto_statement : Parser StmtKind
-goto_statement = expect goto_class >> (number >>= (λ n. pure (s.Goto n)))
-
 module _ (inner : Inner) (stmt : Parser Stmt) where
+  -- an if statement (6.8.3.4)
   unfoldable pub if_statement : Parser StmtKind
   if_statement = do
     expect if_class
@@ -64,6 +72,7 @@ module _ (inner : Inner) (stmt : Parser Stmt) where
     a ← stmt
     else_part stmt c a
 
+  -- a case statement (6.8.3.5)
   unfoldable pub case_statement : Parser StmtKind
   case_statement = do
     expect case_class
@@ -73,6 +82,7 @@ module _ (inner : Inner) (stmt : Parser Stmt) where
     expect end_class
     pure (s.Case e arms)
 
+  -- a while statement (6.8.3.8)
   unfoldable pub while_statement : Parser StmtKind
   while_statement = do
     expect while_class
@@ -81,6 +91,7 @@ module _ (inner : Inner) (stmt : Parser Stmt) where
     body ← stmt
     pure (s.While c body)
 
+  -- a for statement (6.8.3.9)
   unfoldable pub for_statement : Parser StmtKind
   for_statement = do
     expect for_class
@@ -93,6 +104,7 @@ module _ (inner : Inner) (stmt : Parser Stmt) where
     body ← stmt
     pure (s.For x first down last body)
 
+  -- a with statement (6.8.3.10)
   unfoldable pub with_statement : Parser StmtKind
   with_statement = do
     expect with_class
@@ -103,6 +115,7 @@ module _ (inner : Inner) (stmt : Parser Stmt) where
 
   -- and over the reader of the statements of a `repeat`
   module _ (sequence : Parser (List Stmt)) where
+    -- a repeat statement (6.8.3.7)
     unfoldable pub repeat_statement : Parser StmtKind
     repeat_statement = do
       expect repeat_class
@@ -125,6 +138,7 @@ module _ (inner : Inner) (stmt : Parser Stmt) where
         (by (ident_class ∷ []) (by_ident inner)
         (pure s.Empty)))))))))
 
+    -- behind its label
     unfoldable pub labelled : Parser Stmt
     labelled = do
       n ← number
@@ -132,6 +146,7 @@ module _ (inner : Inner) (stmt : Parser Stmt) where
       x ← kind
       pure (make_stmt (Some n) x)
 
+    -- a statement, behind its label or without one (6.8.1)
     unfoldable pub statement : Parser Stmt
     statement = by (number_class ∷ []) labelled (kind >>= (λ x. pure (make_stmt None x)))
 

@@ -1,7 +1,7 @@
 //! Reads statements, headers of statements and bodies of blocks from the tokens that are left.
 //!
-//! Each function answers what the reading function that its contract names answers (`Readers` in specs/), and leaves the
-//! tokens that it leaves. The laws in `proofs/` say that these readers read what the grammar spells.
+//! Each function answers what the reading function in its contract answers (`Readers` in specs/), and leaves the tokens
+//! that it leaves. The laws in proofs/ (`StmtLevels`) say that this is what the grammar spells.
 #![tactic(auto)]
 
 mod parts;

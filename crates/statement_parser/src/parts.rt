@@ -44,7 +44,8 @@ pub fn direction(tokens: &mut Cursor<'_>) -> Result<bool, Stop>
 /// The records of a `with` statement.
 #[tactic(auto, using(token_reader::proofs::Turns::many_step, token_reader::proofs::Turns::many_stop), unfolding(token_reader::specs::Readers::separated))]
 pub fn records(alloc: Global, tokens: &mut Cursor<'_>, depth: usize) -> Result<Items<Access>, Stop>
-    ensures { Reads (separated comma_class (exprs.access (inside depth)) tokens.old) result tokens.new }
+    ensures { Reads (separated comma_class (exprs.access (inside depth)) tokens.old)
+        result tokens.new }
 {
     let mut found = Items::new(alloc);
     found.push(access(alloc, tokens, depth)?)?;

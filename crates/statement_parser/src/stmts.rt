@@ -61,7 +61,8 @@ impl<F: Fn(Global, &mut Cursor<'_>, usize) -> Result<Stmt, Stop>> Statements<F> 
     #[tactic(auto, using(token_reader::proofs::Turns::many_step, token_reader::proofs::Turns::many_stop), unfolding(token_reader::specs::Readers::separated))]
     fn part_list(&self, tokens: &mut Cursor<'_>, depth: usize) -> Result<Items<Stmt>, Stop>
         requires { NestsStmt depth (F.pre self.now.stmt) (F.post self.now.stmt) }
-        ensures { Reads (separated semicolon_class (part_in self.now.parts depth) tokens.old) result tokens.new }
+        ensures { Reads (separated semicolon_class (part_in self.now.parts depth) tokens.old)
+            result tokens.new }
     {
         let mut found = Items::new(self.alloc);
         found.push(self.part(tokens, depth)?)?;
@@ -91,7 +92,8 @@ impl<F: Fn(Global, &mut Cursor<'_>, usize) -> Result<Stmt, Stop>> Statements<F> 
     #[tactic(auto, unfolding(crate::specs::Readers::compound))]
     fn compound(&self, tokens: &mut Cursor<'_>, depth: usize) -> Result<StmtKind, Stop>
         requires { NestsStmt depth (F.pre self.now.stmt) (F.post self.now.stmt) }
-        ensures { Reads (spec.compound (part_in self.now.parts depth) tokens.old) result tokens.new }
+        ensures { Reads (spec.compound (part_in self.now.parts depth) tokens.old)
+            result tokens.new }
     {
         tokens.expect(BEGIN)?;
         let body = self.part_list(tokens, depth)?;
@@ -108,7 +110,8 @@ impl<F: Fn(Global, &mut Cursor<'_>, usize) -> Result<Stmt, Stop>> Statements<F> 
         branch: Boxed<Stmt>,
     ) -> Result<StmtKind, Stop>
         requires { NestsStmt depth (F.pre self.now.stmt) (F.post self.now.stmt) }
-        ensures { Reads (spec.else_part (part_in self.now.parts depth) test branch tokens.old) result tokens.new }
+        ensures { Reads (spec.else_part (part_in self.now.parts depth) test branch tokens.old)
+            result tokens.new }
     {
         match tokens.class() {
             ELSE => {
@@ -147,8 +150,8 @@ impl<F: Fn(Global, &mut Cursor<'_>, usize) -> Result<Stmt, Stop>> Statements<F> 
     #[tactic(auto, using(token_reader::proofs::Turns::ended_step, token_reader::proofs::Turns::ended_stop))]
     fn arms(&self, tokens: &mut Cursor<'_>, depth: usize) -> Result<Items<Arm>, Stop>
         requires { NestsStmt depth (F.pre self.now.stmt) (F.post self.now.stmt) }
-        ensures { Reads (ended semicolon_class constant_first (spec.arm (part_in self.now.parts depth)) tokens.old)
-            result tokens.new }
+        ensures { Reads (ended semicolon_class constant_first
+            (spec.arm (part_in self.now.parts depth)) tokens.old) result tokens.new }
     {
         let mut found = Items::new(self.alloc);
         found.push(self.arm(tokens, depth)?)?;

@@ -1,5 +1,6 @@
 -- What is answered for a list of tokens, unless memory runs out.
 use Rattle.std.specs.Prelude.{◌≡◌, ℕ, Bool, if◌then◌else◌, ◌==◌, List, map, length, Result, Ok, Err}
+use Rattle.std.specs.declared.alloc.Global.{Global}
 use denote.Ref.{MutBor}
 use Rattle.dice_base.specs.declared.token.Token.{Token}
 use Rattle.dice_base.specs.Tokens.{Toks}
@@ -67,7 +68,8 @@ Settles (Err At) v result = Answers v result
 Settles (Err Deep) v result = Answers v result
 
 -- a function value that may be called with any number of levels, and then answers what the reader answers
-pub record ReadsAs {A : Type 0} (p : ℕ → Parser A) (pre : MutBor Toks → ℕ → Type 0)
-    (post : MutBor Toks → ℕ → Result A Stop → MutBor Toks → Type 0) : Type 0 where
-  pub callable : (old : MutBor Toks) (d : ℕ) → pre old d
-  pub reads : (old new : MutBor Toks) (d : ℕ) (r : Result A Stop) → post old d r new → Reads (p d old.now) r new.now
+pub record ReadsAs {A : Type 0} (p : ℕ → Parser A) (pre : Global → MutBor Toks → ℕ → Type 0)
+    (post : Global → MutBor Toks → ℕ → Result A Stop → MutBor Toks → Type 0) : Type 0 where
+  pub callable : (alloc : Global) (old : MutBor Toks) (d : ℕ) → pre alloc old d
+  pub reads : (alloc : Global) (old new : MutBor Toks) (d : ℕ) (r : Result A Stop) →
+      post alloc old d r new → Reads (p d old.now) r new.now

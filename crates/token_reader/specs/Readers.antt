@@ -1,6 +1,6 @@
 -- Readers. A reader takes the tokens that are left and answers a value, or why it stops, and the tokens that are then
 -- left.
-use Rattle.std.specs.Prelude.{◌≡◌, ℕ, zero, suc, Bool, true, false, if◌then◌else◌, List, [], ◌∷◌, ◌++◌, length, Option, Some, None, Result, Ok, Err}
+use Rattle.std.specs.Prelude.{◌≡◌, ℕ, zero, suc, Bool, true, false, if◌then◌else◌, List, [], ◌∷◌, ◌++◌, length, Option, Some, None, Result, Ok, Err, bytes_eq}
 use Rattle.dice_base.specs.declared.token.TokenKind.{TokenKind}
 use Rattle.dice_base.specs.Tokens.{Toks, Classes, class_at, is_in, has_class, operator_of, keys, ident_of, number_of, string_of}
 use Rattle.token_reader.specs.declared.stop.Stop.{Stop}
@@ -95,6 +95,15 @@ ended_from c table item (suc n) found =
 
 abbrev pub ended : {A : Type 0} → ℕ → Classes → Parser A → Parser (List A)
 ended c table item = item >>= (λ x ts. ended_from c table item (length ts) (x ∷ []) ts)
+
+abbrev pub on_ident : Option (List ℕ) → List ℕ → Bool
+on_ident (Some x) text = bytes_eq x text
+on_ident None text = false
+
+-- the next token is this identifier
+abbrev pub is_ident : List ℕ → Toks → Bool
+is_ident text [] = false
+is_ident text (t ∷ ts) = on_ident (ident_of t) text
 
 -- ---- what a function that reads ensures: the reader's outcome, unless memory fails
 

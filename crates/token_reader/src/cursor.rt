@@ -2,7 +2,7 @@
 ghost use Rattle.std.specs.Prelude.{◌≡◌, length, map, drop};
 ghost use Rattle.dice_base.specs.Tokens.{class_at};
 ghost use Rattle.token_reader.specs.Readers as spec;
-ghost use Rattle.token_reader.specs.Readers.{Reads};
+ghost use Rattle.token_reader.specs.Readers.{Reads, is_ident};
 
 use crate::Stop;
 use crate::classes::{END_OF_TOKENS, class};
@@ -40,6 +40,19 @@ impl<'a> Cursor<'a> {
         match self.rest {
             [] => END_OF_TOKENS,
             [token, ..] => class(&token.kind),
+        }
+    }
+
+    /// Whether the next token is this identifier.
+    pub fn is_at(&self, ident: &[u8]) -> bool
+        ensures { result ≡ is_ident ident.now self.now }
+    {
+        match self.rest {
+            [] => false,
+            [token, ..] => match &token.kind {
+                TokenKind::Ident(x) => x.bytes() == ident,
+                _ => false,
+            },
         }
     }
 

@@ -8,6 +8,7 @@ ghost use Rattle.token_reader.specs.Readers.{Parser, is_deep};
 
 use crate::{Cursor, ParseFault, Stop};
 use dice_base::Token;
+use std::alloc::Global;
 
 // The answer of a reader that stopped for no want of levels, or of one that was given a level more.
 #[tactic(auto, using(crate::proofs::Settled::settled_done, crate::proofs::Settled::settled_more))]
@@ -16,20 +17,21 @@ fn settle<A: Drop>(outcome: Result<A, Stop>, rest: &Cursor<'_>, all: usize) -> R
     ensures { Settles outcome (settled outcome rest.now all) result }
 {
     let left = rest.len();
+    let place = all.saturating_sub(left) as u32;
     match outcome {
         Err(Stop::Memory) => Err(ParseFault::NoMemory),
         Ok(value) => {
             if left == 0 {
                 Ok(value)
             } else {
-                Err(ParseFault::Unexpected(all.saturating_sub(left) as u32))
+                Err(ParseFault::Unexpected(place))
             }
         }
         Err(_) => {
             if left == 0 {
                 Err(ParseFault::EndsEarly)
             } else {
-                Err(ParseFault::Unexpected(all.saturating_sub(left) as u32))
+                Err(ParseFault::Unexpected(place))
             }
         }
     }
@@ -69,23 +71,24 @@ fn is_too_deep<A: Drop>(outcome: &Result<A, Stop>) -> bool
 /// Where that is too deep, it reads once more with one level more: if that stops at the same place, the place is at
 /// fault and not the levels. So nothing nests deeper than one level above those that are allowed.
 #[tactic(auto, using(crate::proofs::Settled::settle_case, crate::proofs::Settled::again_case))]
-pub fn read_all<A: Drop, F: Fn(&mut Cursor<'_>, usize) -> Result<A, Stop>>(
+pub fn read_all<A: Drop, F: Fn(Global, &mut Cursor<'_>, usize) -> Result<A, Stop>>(
+    alloc: Global,
     tokens: &[Token],
     levels: usize,
     read: F,
 ) -> Result<A, ParseFault>
     requires short { length tokens.now ≤ 65536 }
     requires few { levels < 65536 }
-    requires callable { (old : MutBor Toks) (d : ℕ) → F.pre read old d }
+    requires callable { (alloc : Global) (old : MutBor Toks) (d : ℕ) → F.pre read alloc old d }
     ensures { (p : ℕ → Parser A) → ReadsAs p (F.pre read) (F.post read)
         → Answers (read_whole p levels (kinds tokens.now)) result }
 {
     let mut cursor = Cursor::new(tokens);
-    let outcome = read(&mut cursor, levels);
+    let outcome = read(alloc, &mut cursor, levels);
     if !is_too_deep(&outcome) {
         return settle(outcome, &cursor, tokens.len());
     }
     let mut deeper = Cursor::new(tokens);
-    let second = read(&mut deeper, levels + 1);
+    let second = read(alloc, &mut deeper, levels + 1);
     settle_again(second, &deeper, cursor.len(), tokens.len())
 }

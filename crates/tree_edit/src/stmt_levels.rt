@@ -65,7 +65,7 @@ fn stmts_depth(stmts: &[Stmt]) -> Result<u32, NoMemory>
 }
 
 #[cycle(stmt_depth)]
-#[tactic(auto, unfolding(crate::specs::Depth::arm_depth, crate::specs::Depth::stmt_depth, crate::specs::Depth::kind_depth))]
+#[tactic(auto, unfolding(pascal_tree::specs::Depth::arm_depth, pascal_tree::specs::Depth::stmt_depth, pascal_tree::specs::Depth::kind_depth))]
 fn arm_depth(arm: &Arm) -> Result<u32, NoMemory>
     ensures { IfOk result (λ n. n ≡ spec.arm_depth arm.now) }
 {
@@ -85,7 +85,7 @@ fn arms_depth(arms: &[Arm]) -> Result<u32, NoMemory>
 }
 
 #[cycle(stmt_depth)]
-#[tactic(auto, unfolding(crate::specs::Depth::stmt_depth, crate::specs::Depth::kind_depth, crate::specs::Depth::arm_depth))]
+#[tactic(auto, unfolding(pascal_tree::specs::Depth::stmt_depth, pascal_tree::specs::Depth::kind_depth, pascal_tree::specs::Depth::arm_depth))]
 fn kind_depth(kind: &StmtKind) -> Result<u32, NoMemory>
     ensures { IfOk result (λ n. n ≡ spec.kind_depth kind.now) }
 {
@@ -135,7 +135,7 @@ fn kind_depth(kind: &StmtKind) -> Result<u32, NoMemory>
 
 /// The levels that a statement takes, with its own.
 #[cycle(stmt_depth)]
-#[tactic(auto, unfolding(crate::specs::Depth::stmt_depth, crate::specs::Depth::kind_depth, crate::specs::Depth::arm_depth))]
+#[tactic(auto, unfolding(pascal_tree::specs::Depth::stmt_depth, pascal_tree::specs::Depth::kind_depth, pascal_tree::specs::Depth::arm_depth))]
 pub fn stmt_depth(stmt: &Stmt) -> Result<u32, NoMemory>
     ensures { IfOk result (λ n. n ≡ spec.stmt_depth stmt.now) }
 {

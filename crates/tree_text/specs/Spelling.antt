@@ -3,13 +3,8 @@ use Rattle.std.specs.Prelude.{ℕ, ◌==◌, if◌then◌else◌, List, [], ◌�
 use Rattle.std.specs.Fmt.{decimal}
 use Rattle.dice_base.specs.declared.token.TokenKind.{TokenKind}
 use Rattle.dice_base.specs.declared.token.TokenKind.TheVariants.{Word, Ident, Number, Str, Sign, Hole}
+use Rattle.dice_base.specs.Lexemes.{doubled_apostrophes}
 use Rattle.dice_base.specs.declared.symbols.TheConstants.{WORD_SYMBOLS, SIGNS}
-
--- the characters of a string with each apostrophe twice (6.1.7)
-abbrev pub doubled_apostrophes : List ℕ → List ℕ
-doubled_apostrophes [] = []
-doubled_apostrophes (c ∷ cs) =
-    if c == 39 then 39 ∷ 39 ∷ doubled_apostrophes cs else c ∷ doubled_apostrophes cs
 
 -- the spelling of a word symbol by its number in the table of dice_base, and that of a sign
 unfoldable pub word_spelling : ℕ → List ℕ

@@ -1,6 +1,7 @@
 //! Tokens as text.
 ghost use Rattle.std.specs.Prelude.{◌≡◌, ◌++◌, ◌∷◌, [], map, slice_index_or, OnOk};
-ghost use Rattle.tree_text.specs.Spelling.{doubled_apostrophes, spelling_of};
+ghost use Rattle.dice_base.specs.Lexemes.{doubled_apostrophes};
+ghost use Rattle.tree_text.specs.Spelling.{spelling_of};
 
 use dice_base::{NoMemory, SIGNS, Text, TokenKind, WORD_SYMBOLS, push_decimal};
 use std::alloc::Global;

@@ -7,4 +7,5 @@ use Rattle.statement_parser.proofs.parts.records.Given as goal
 abbrev pub invariant-loop-turn : goal.invariant-loop-turn
 invariant-loop-turn l =
     separated comma_class (access (inside l.depth)) l.fn.tokens
-    ≡ many_from (comma_class ∷ []) (expect comma_class >> access (inside l.depth)) (l._turn-end - l._turn) l.found l.tokens
+    ≡ many_from (comma_class ∷ []) (expect comma_class >> access (inside l.depth))
+    (l._turn-end - l._turn) l.found l.tokens

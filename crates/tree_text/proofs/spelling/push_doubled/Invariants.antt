@@ -1,5 +1,5 @@
 use Rattle.std.proofs.Common.{◌≡◌, ◌++◌, drop}
-use Rattle.tree_text.specs.Spelling.{doubled_apostrophes}
+use Rattle.dice_base.specs.Lexemes.{doubled_apostrophes}
 use Rattle.tree_text.proofs.spelling.push_doubled.Given as goal
 
 abbrev pub invariant-loop-byte : goal.invariant-loop-byte

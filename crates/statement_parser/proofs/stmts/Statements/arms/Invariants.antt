@@ -9,4 +9,5 @@ use Rattle.statement_parser.proofs.stmts.Statements.arms.Given as goal
 abbrev pub invariant-loop-turn : goal.invariant-loop-turn
 invariant-loop-turn g l =
     ended semicolon_class constant_first (arm (part_in l.self.parts l.depth)) l.fn.tokens
-    ≡ ended_from semicolon_class constant_first (arm (part_in l.self.parts l.depth)) (l._turn-end - l._turn) l.found l.tokens
+    ≡ ended_from semicolon_class constant_first (arm (part_in l.self.parts l.depth))
+    (l._turn-end - l._turn) l.found l.tokens

@@ -1,0 +1,3 @@
+pub mod BlockLevels
+pub mod BlockRules
+pub mod Further

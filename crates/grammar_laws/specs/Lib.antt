@@ -1,4 +1,0 @@
-pub mod Parsers
-pub mod ProgramReading
-pub mod Reading
-pub mod StmtReading

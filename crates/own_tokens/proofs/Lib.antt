@@ -1,0 +1,6 @@
+pub mod DeclWritten
+pub mod EventTokens
+pub mod ExprTrees
+pub mod ExprWritten
+pub mod ProgramWritten
+pub mod Written
