@@ -1,5 +1,4 @@
 pub mod Column
-pub mod Folds
 pub mod Gaps
 pub mod Layouts
 pub mod ListedNames

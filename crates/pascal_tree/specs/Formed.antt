@@ -1,6 +1,6 @@
 -- Which programs a text can spell: those of words that a text can have in which no list is empty where the grammar
 -- (ISO 7185:1990, 6.2 to 6.10) wants one item or more, and each part is of the sort that its place asks for.
-use Rattle.std.specs.Prelude.{ℕ, Bool, true, false, ◌&&◌, ◌||◌, List, [], ◌∷◌, Option, Some, None, is_none, map}
+use Rattle.std.specs.Prelude.{ℕ, Bool, true, false, ◌&&◌, ◌||◌, nat_le, List, [], ◌∷◌, Option, Some, None, is_none, map}
 use Rattle.pascal_tree.specs.declared.stmt.Constant.{Constant}
 use Rattle.pascal_tree.specs.declared.stmt.Constant.TheVariants as constant
 use Rattle.pascal_tree.specs.declared.typing.TypeText.{TypeText, TypeText-F, fold-TypeText}
@@ -16,6 +16,9 @@ use Rattle.pascal_tree.specs.declared.decl.Heading.{Heading}
 use Rattle.pascal_tree.specs.declared.decl.Block.{Block, Block-F, fold-Block}
 use Rattle.pascal_tree.specs.declared.decl.Routine.{Routine, Routine-F, fold-Routine}
 use Rattle.pascal_tree.specs.declared.program.Tree.{Tree}
+use Rattle.pascal_tree.specs.declared.levels.TheConstants.{LEVELS}
+use Rattle.pascal_tree.specs.Depth.{decl_depth, stmt_depth, routine_depth, tree_levels}
+use Rattle.pascal_tree.specs.Openness.{is_paired, routine_is_paired, program_is_paired}
 use Rattle.pascal_tree.specs.FormedExprs.{is_identifier, is_number, is_string, all_formed, some_formed, formed_if_any, access_is_formed, arg_is_formed, expr_is_formed}
 
 -- one identifier or more, with commas between (6.4.2.3)
@@ -187,3 +190,17 @@ routine_is_formed = fold-Routine Bool Bool formed_block formed_routine
 -- a program (6.10) may have no parameters
 abbrev pub program_is_formed : Tree → Bool
 program_is_formed p = is_identifier p.ident && all_formed (map is_identifier p.files) && block_is_formed p.block
+
+-- ---- and with at most so many levels, and each `else` at its own `if`: what some tokens of a text spell, names aside
+
+abbrev pub is_formed : Tree → Bool
+is_formed p = program_is_formed p && program_is_paired p && nat_le (tree_levels p) LEVELS
+
+abbrev pub is_formed_stmt : Stmt → Bool
+is_formed_stmt s = stmt_is_formed s && is_paired s && nat_le (stmt_depth s) LEVELS
+
+abbrev pub is_formed_routine : Routine → Bool
+is_formed_routine r = routine_is_formed r && routine_is_paired r && nat_le (routine_depth r) LEVELS
+
+abbrev pub is_formed_decl : Decl → Bool
+is_formed_decl d = decl_is_formed d.kind && nat_le (decl_depth d.kind) LEVELS

@@ -4,6 +4,7 @@ pub mod Programs
 pub mod Statements
 pub mod Classes
 pub mod Depth
+pub mod Openness
 pub mod FormedExprs
 pub mod Formed
 pub mod Joined

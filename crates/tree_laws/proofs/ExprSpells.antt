@@ -218,7 +218,7 @@ module _ (d : ℕ) (F : Form Factor) (inner : Spelling F factor_is_formed factor
 
 -- ---- each takes a level at least
 
-access-some : (a : Access) → 1 ≤ access_depth a
+pub access-some : (a : Access) → 1 ≤ access_depth a
 access-some = some_levels access_layer out-Access roll-out-Access (λ x. omega arith)
 
 factor-some : (x : Factor) → 1 ≤ factor_depth x

@@ -1,20 +1,19 @@
 -- A constant, a type, a declaration and a heading that a text spells is formed, and has no more levels than it is spelled
 -- with.
-use Rattle.std.specs.Prelude.{◌≡◌, ℕ, ◌+◌, ◌≤◌, max, zero, suc, Bool, true, false, List, [], ◌∷◌, Option, Some, None, map}
-use Rattle.std.proofs.Common.{refl, sym, ap, subst, ◌∙◌, arith}
+use Rattle.std.specs.Prelude.{◌≡◌, ℕ, zero, suc, Bool, true, false, List, []}
+use Rattle.std.proofs.Common.{refl, ap, ◌∙◌, arith}
 use Rattle.dice_base.specs.Forms.{Form}
 use Rattle.pascal_tree.specs.Classes.{comma_class, semicolon_class}
-use Rattle.pascal_tree.specs.declared.stmt.Constant.{Constant}
 use Rattle.pascal_tree.specs.declared.typing.TypeText.{TypeText, TypeText-F}
 use Rattle.pascal_tree.specs.declared.typing.TypeText.TheVariants as typed
 use Rattle.pascal_tree.specs.declared.typing.TypeText.TheVariants.{rolls-Named, rolls-Enumeration, rolls-Range, rolls-Pointer, rolls-Array, rolls-SetOf, rolls-RecordOf}
 use Rattle.pascal_tree.specs.declared.typing.FieldText.{FieldText}
 use Rattle.pascal_tree.specs.Declarations.{constant_form, idents_form, simple_form, field_form, record_in, array_in, set_in, struct_form, type_form, simple_at, type_at}
-use Rattle.pascal_tree.specs.FormedExprs.{is_identifier, some_formed}
+use Rattle.pascal_tree.specs.FormedExprs.{some_formed}
 use Rattle.pascal_tree.specs.Formed.{are_identifiers, constant_is_formed, type_is_formed, is_simple_type, field_is_formed}
 use Rattle.pascal_tree.specs.Depth.{type_depth, field_depth}
 use Rattle.tree_laws.proofs.Words.{and-parts, and-true}
-use Rattle.tree_laws.proofs.Gives.{Fits, AllFit, SomeFit, Gives, Fitting, some-all, give, refused, choice, behind, weaken, operator, mark, identifier, number, string, items, list, ended, flat_list}
+use Rattle.tree_laws.proofs.Gives.{Fits, AllFit, SomeFit, Gives, Fitting, some-all, give, refused, choice, behind, weaken, operator, mark, identifier, number, string, list, ended, flat_list}
 use Rattle.tree_laws.proofs.Layers.{made, variant}
 use Rattle.tree_laws.proofs.TypeLayers.{type_layer, simple_layer, field_layer, shapes-simple}
 

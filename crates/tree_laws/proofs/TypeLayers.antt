@@ -1,6 +1,6 @@
 -- Whether a type is formed and how many levels it takes, by the same of its parts.
 use Rattle.std.specs.Prelude.{◌≡◌, ℕ, Bool, List, [], ◌∷◌, map}
-use Rattle.std.proofs.Common.{refl, ap, ◌∙◌}
+use Rattle.std.proofs.Common.{refl, ap}
 use Rattle.pascal_tree.specs.declared.typing.TypeText.{TypeText, TypeText-F, roll-TypeText, map-TypeText}
 use Rattle.pascal_tree.specs.declared.typing.FieldText.{FieldText, FieldText-F, roll-FieldText, map-FieldText}
 use Rattle.pascal_tree.specs.declared.typing.TypeText.TheFolds.{fold-roll-TypeText, fold-roll-FieldText}

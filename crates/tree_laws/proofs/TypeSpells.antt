@@ -1,10 +1,9 @@
 -- A constant and a type that is formed is spelled by a text, with the levels that it takes.
-use Rattle.std.specs.Prelude.{◌≡◌, ℕ, ◌+◌, ◌≤◌, ◌<◌, max, zero, suc, Bool, true, false, ◌&&◌, List, [], ◌∷◌, Option, Some, None, map}
-use Rattle.std.proofs.Common.{refl, sym, ap, subst, ◌∙◌, arith}
+use Rattle.std.specs.Prelude.{◌≡◌, ℕ, ◌≤◌, zero, suc, Bool, true, false, ◌&&◌, List, [], ◌∷◌}
+use Rattle.std.proofs.Common.{refl, sym, ap, ◌∙◌, arith}
 use Rattle.dice_base.specs.Forms.{Form}
 use Rattle.dice_base.specs.declared.symbols.words.TheConstants as words
 use Rattle.dice_base.specs.declared.symbols.signs.TheConstants as signs
-use Rattle.pascal_tree.specs.declared.expr.Prefix.{Prefix}
 use Rattle.pascal_tree.specs.declared.expr.Prefix.TheVariants as prefix
 use Rattle.pascal_tree.specs.declared.stmt.Constant.{Constant}
 use Rattle.pascal_tree.specs.declared.stmt.Constant.TheVariants as constant
@@ -17,7 +16,7 @@ use Rattle.pascal_tree.specs.Formed.{are_identifiers, constant_is_formed, type_i
 use Rattle.pascal_tree.specs.Depth.{type_depth, field_depth}
 use Rattle.tree_laws.specs.Spelled.{Spelled}
 use Rattle.tree_laws.proofs.Words.{and-parts, and-true}
-use Rattle.tree_laws.proofs.Gives.{Fits, AllFit, SomeFit}
+use Rattle.tree_laws.proofs.Gives.{Fits}
 use Rattle.tree_laws.proofs.Layers.{made, opened, some_levels}
 use Rattle.tree_laws.proofs.TypeLayers.{TypeTextLayer, FieldTextLayer, layer_shape, type_levels, type_layer, simple_layer, field_layer, shapes-simple}
 use Rattle.tree_laws.proofs.Spells.{Spelling, whole, done, left, right, after, identifier, number, string, word, sign, sign_operator, list, ended, flat_list}
