@@ -1,2 +1,3 @@
+pub mod Appended
 mod Slices
 mod SignedValue

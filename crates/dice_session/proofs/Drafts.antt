@@ -8,14 +8,13 @@ use Rattle.pascal_tree.specs.declared.program.Tree.{Tree}
 use Rattle.pascal_tree.specs.declared.stmt.Stmt.{Stmt}
 use Rattle.pascal_semantics.specs.declared.form.Statement.{Statement}
 use Rattle.pascal_semantics.specs.Charge.{program_charge, charges_of}
-use Rattle.pascal_semantics.specs.State.{Status, NotStarted, Halted, Ended, Failed, loaded_state}
+use Rattle.pascal_semantics.specs.State.{loaded_state}
 use Rattle.pascal_semantics.specs.Valid.{IsProgram, code_room}
 use Rattle.pascal_print.specs.Listing.{listing}
-use Rattle.simple_form.specs.Simple.{resolution_of, variables_in, is_built}
+use Rattle.simple_form.specs.Simple.{resolution_of}
 use Rattle.tree_edit.specs.declared.fault.EditFault.{EditFault}
 use Rattle.tree_edit.specs.Edited.{replaced_program}
-use Rattle.dice_session.specs.Reading.{OneStatement}
-use Rattle.dice_session.specs.World.{World, Mode, Commands, Loading, Over, Reply, reply_line, load_reply, loaded_line, statements_of, or_none, refusal, machine_reply, if_program, with_program, begun_reply, if_fits, full_words, unless_halted, apply_fitting, apply_reply, if_built, edit_reply, replace_reply, edit_fault_text, put_reply, list_reply}
+use Rattle.dice_session.specs.World.{World, Mode, Commands, Loading, Over, reply_line, load_reply, program_reply, loaded_line, statements_of, or_none, refusal, machine_reply, if_program, with_program, begun_reply, full_words, unless_halted, apply_fitting, apply_reply, if_built, edit_reply, replace_reply, edit_fault_text, list_reply}
 use Rattle.dice_session.specs.Simulates.{SimulatesRun}
 use Rattle.dice_session.specs.SessionOf.{HasMode, HasStatements, HasProgram, IsSessionOf, Became}
 use Rattle.dice_session.specs.Progress.{progress_of, is_halted}
@@ -44,16 +43,6 @@ pub apply-unbuilt : (w : World) (p : Tree) (before after : List ℕ) (s : Sessio
 apply-unbuilt w p before after s machine h none told = subst (λ r. Became (if_built r w (apply_fitting w p)) before after machine s machine) (sym none) (record { told = told; of_world = h; kept = λ e. refl })
 
 -- ---- edits
-
-pub put-built : (w : World) (name : ℕ) (x : Stmt) (before after : List ℕ) (s t : Session) (machine now : MachineState) → IsSessionOf w s machine → is_built (variables_in s.draft) x ≡ true → Became (if_program w.draft w (replace_reply w name x)) before after machine t now
-    → Became (put_reply w name (OneStatement x)) before after machine t now
-put-built w name x before after s t machine now h built became =
-    subst (λ b. Became (if b then if_program w.draft w (replace_reply w name x) else refusal w (codes "not built")) before after machine t now) (sym (ap (λ d. is_built (variables_in d) x) (sym h.draft) ∙ built)) became
-
-pub put-unbuilt : (w : World) (name : ℕ) (x : Stmt) (before after : List ℕ) (s : Session) (machine : MachineState) → IsSessionOf w s machine → is_built (variables_in s.draft) x ≡ false → after ≡ before ++ reply_line (codes "not built")
-    → Became (put_reply w name (OneStatement x)) before after machine s machine
-put-unbuilt w name x before after s machine h unbuilt told =
-    subst (λ b. Became (if b then if_program w.draft w (replace_reply w name x) else refusal w (codes "not built")) before after machine s machine) (sym (ap (λ d. is_built (variables_in d) x) (sym h.draft) ∙ unbuilt)) (record { told = told; of_world = h; kept = λ e. refl })
 
 -- another draft
 pub with-draft : (w : World) (p : Tree) (s t : Session) (machine : MachineState) → IsSessionOf w s machine → t.over ≡ s.over → t.text ≡ s.text → t.program ≡ s.program → t.progress ≡ s.progress → t.console ≡ s.console → t.draft ≡ Some p
@@ -113,6 +102,15 @@ begun-became w p ss before after s t machine now h commands is program over text
 
     HasProgramOf : List Statement → Type 0
     HasProgramOf xs = HasStatements xs loaded_state t
+
+-- it is refused where it is not built
+pub load-unbuilt : (w : World) (p : Tree) (before after : List ℕ) (s : Session) (machine : MachineState) → IsSessionOf w s machine → resolution_of p ≡ None → after ≡ before ++ reply_line (codes "not built")
+    → Became (program_reply w p) before after machine s machine
+load-unbuilt w p before after s machine h none told = subst (λ r. Became (if_built r w (load_reply w p)) before after machine s machine) (sym none) (record { told = told; of_world = h; kept = λ e. refl })
+
+pub load-built : (w : World) (p : Tree) (ss : List Statement) (before after : List ℕ) (t : Session) (machine now : MachineState) → resolution_of p ≡ Some ss → Became (load_reply w p ss) before after machine t now
+    → Became (program_reply w p) before after machine t now
+load-built w p ss before after t machine now is became = subst (λ r. Became (if_built r w (load_reply w p)) before after machine t now) (sym is) became
 
 -- the draft is that program as well
 pub loaded-became : (w : World) (p : Tree) (ss : List Statement) (before after : List ℕ) (machine : MachineState) (s t : Session) (now : MachineState) → program_charge + charges_of ss ≤ code_room

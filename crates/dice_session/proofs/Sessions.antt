@@ -18,7 +18,9 @@ use Rattle.dice_command.specs.Keyword.{keyword_of}
 use Rattle.dice_command.specs.Command.{Asked, Blank, Bad, Replace, asked, command_of, with_arguments}
 use Rattle.dice_command.specs.declared.command.LineCommand.{LineCommand}
 use Rattle.pascal_tree.specs.declared.program.Tree.{Tree}
-use Rattle.dice_session.specs.Reading.{Reading, IsReading, Substitute, IsSubstitute}
+use Rattle.pascal_tree.specs.declared.stmt.Stmt.{Stmt}
+use Rattle.dice_session.specs.Reading.{IsProgramText, IsStmtText}
+use Rattle.dice_session.specs.declared.reading.TextFault.{TextFault}
 use Rattle.dice_session.specs.Progress.{progress_of, progress_after, is_over}
 use Rattle.dice_session.specs.declared.progress.Progress.TheVariants as progress
 use Rattle.dice_session.specs.World.{World, Mode, Commands, Loading, Over, Command, Line, Puts, TextLine, TextEnd, Nothing, IsCommand, Reads, Reply, reply_of, refusal, asked_reply, if_program, ran_reply, run_reply, reply_line, with_line, end_line, statements_of, full_words, full_text, if_fits, put_reply}
@@ -32,6 +34,11 @@ use Rattle.dice_session.proofs.Texts.{longer-kept, same-line}
 pub on_ok : {E : Type 0} {P Q : Type 0} (r : Result (Unit {0}) E) → OnOk r P → (P → Q) → OnOk r Q
 on_ok (Ok u) p f = f p
 on_ok (Err e) p f = tt
+
+-- two of them
+pub on_ok_both : {E : Type 0} {P Q R : Type 0} (r : Result (Unit {0}) E) → OnOk r P → OnOk r Q → (P → Q → R) → OnOk r R
+on_ok_both (Ok u) p q f = f p q
+on_ok_both (Err e) p q f = tt
 
 none-some : {A : Type 0} (x : A) → None ≡ Some x → ⊥
 none-some x e = absurd cc
@@ -125,7 +132,7 @@ pub asked-obeyed : (w : World) (command : LineCommand) (a : Asked) (before after
 asked-obeyed w command a before after machine t now e is became = subst (λ x. Obeyed w x before after machine t now) (sym e) (line-obeyed w a before after machine t now is became)
 
 -- a `replace` is obeyed with the statement that it was read with
-pub puts-obeyed : (w : World) (name : ℕ) (text before after : List ℕ) (r : Substitute) (machine : MachineState) (t : Session) (now : MachineState) → IsSubstitute text r → Became (put_reply w name r) before after machine t now → Obeyed w (Replace name text) before after machine t now
+pub puts-obeyed : (w : World) (name : ℕ) (text before after : List ℕ) (r : Result Stmt TextFault) (machine : MachineState) (t : Session) (now : MachineState) → IsStmtText text r → Became (put_reply w name r) before after machine t now → Obeyed w (Replace name text) before after machine t now
 unfolding reply_of
 puts-obeyed w name text before after r machine t now is became = record { command = Puts name r; is = (r, is, refl); became = became }
 
@@ -156,7 +163,7 @@ loading-going m s t h e = (subst (λ m. HasMode m s) e h).0
 pub text-open : (w : World) (s : Session) (machine : MachineState) (t : List ℕ) → IsSessionOf w s machine → w.mode ≡ Loading t → IsSessionOf (record w { mode = Commands }) (record s { text = None }) machine
 text-open w s machine t h loading = with-mode w Commands s (record s { text = None }) machine h (loading-going w.mode s t h.mode loading, refl) refl refl refl refl
 
-ends-text : (m : Mode) (t l : List ℕ) (r : Reading) → m ≡ Loading t → bytes_eq l end_line ≡ true → IsReading t r → Reads m l (TextEnd r)
+ends-text : (m : Mode) (t l : List ℕ) (r : Result Tree TextFault) → m ≡ Loading t → bytes_eq l end_line ≡ true → IsProgramText t r → Reads m l (TextEnd r)
 unfolding Reads
 ends-text m t l r e is h = rw (e, is) (r, h, refl)
 
@@ -184,8 +191,8 @@ pub end-replied : (w : World) (t l given before after : List ℕ) (machine : Mac
     → SameFront l given → bytes_eq given end_line ≡ true → Replied w l before after machine s now
 unfolding reply_of
 end-replied w t l given before after machine s now r loading same is = record {
-  command = TextEnd r.reading;
-  reads = ends-text w.mode t l r.reading loading (same-end l given true same is) r.is;
+  command = TextEnd r.read;
+  reads = ends-text w.mode t l r.read loading (same-end l given true same is) r.is;
   told = r.became.told;
   of_world = r.became.of_world;
   kept = r.became.kept;

@@ -1,12 +1,23 @@
 -- Texts of which a front is kept.
-use Rattle.std.proofs.Common.{◌≡◌, ◌<◌, ◌≤◌, ◌⊎◌, ℕ, ◌+◌, ◌-◌, List, [], ◌∷◌, ◌++◌, length, take, sym, ap, ◌∙◌, append_assoc, arith, inl, inr, take_all}
-use Rattle.std.specs.Prelude.{min}
+use Rattle.std.proofs.Common.{◌≡◌, ◌<◌, ◌≤◌, ◌⊎◌, ℕ, ◌+◌, ◌-◌, List, [], ◌∷◌, ◌++◌, length, take, Result, Ok, Err, sym, ap, subst, ◌∙◌, append_assoc, arith, inl, inr, take_all}
+use Rattle.std.specs.Prelude.{min, IfErr}
 use Rattle.std.proofs.lemmas.Bool.{cases_lt}
 use Rattle.std.proofs.lemmas.List.{take-take, length-take, take_min, take-append-le}
 use Rattle.std.proofs.Math.Seq.{take-append-add}
 use Rattle.script_lines.specs.Front.{longest_text, SameFront}
 use Rattle.dice_session.specs.SessionOf.{kept_text}
-use Rattle.dice_session.specs.Reading.{Reading, TooLong, NotBuilt, Program, IsReading}
+use Rattle.dice_base.specs.Forms.{Form}
+use Rattle.dice_base.specs.Tokens.{Toks}
+use Rattle.pascal_scanner.specs.Unread.{Reports}
+use Rattle.pascal_scanner.specs.declared.fault.ScanFault.{ScanFault}
+use Rattle.token_reader.specs.Answers.{Says}
+use Rattle.dice_session.specs.declared.reading.TextFault.{TextFault}
+use Rattle.dice_session.specs.declared.reading.TextFault.TheVariants.{Scan, Parse}
+use Rattle.pascal_tree.specs.declared.levels.TheConstants.{LEVELS}
+use Rattle.pascal_tree.specs.declared.program.Tree.{Tree}
+use Rattle.pascal_tree.specs.Naming.{numbered_program}
+use Rattle.pascal_tree.specs.Programs.{program_at}
+use Rattle.dice_session.specs.Reading.{IsUnscanned, IsScanned, IsOfText, TextSays, IsProgramText}
 
 pub front-added : (text bytes : List ℕ) (len count : ℕ) → len ≡ length text → count ≡ min (length bytes) (kept_text - len) → length text ≤ kept_text
     → text ++ take count bytes ≡ take kept_text (text ++ bytes)
@@ -56,8 +67,26 @@ same-line l line same = elim (cases_lt longest_text (length line)) [
 same-text : (text kept : List ℕ) → kept ≡ take kept_text text → length kept ≤ longest_text → text ≡ kept
 same-text text kept is short = sym (is ∙ take_all kept_text text (omega (arith, ap length is, length-take kept_text text, short)))
 
+longer-text : (text kept : List ℕ) → kept ≡ take kept_text text → longest_text < length kept → longest_text < length text
+longer-text text kept is long = omega (arith, ap length is, length-take kept_text text, long)
+
 -- what a text is hangs on its front alone
-pub same-reading : (text kept : List ℕ) (r : Reading) → kept ≡ take kept_text text → IsReading kept r → IsReading text r
-same-reading text kept TooLong is h = omega (arith, ap length is, length-take kept_text text, h)
-same-reading text kept NotBuilt is h = let e = same-text text kept is h.0 in rw e h
-same-reading text kept (Program p) is h = let e = same-text text kept is h.0 in rw e h
+unscanned-whole : (text kept : List ℕ) (fault : ScanFault) → kept ≡ take kept_text text → IsUnscanned kept fault → IsUnscanned text fault
+unscanned-whole text kept fault is h = elim (cases_lt longest_text (length kept)) [
+  | inl long ↦ let e = h.first long in record {
+    first = λ _. e;
+    reported = subst (λ f. Reports f text) (sym e) (longer-text text kept is long);
+  }
+  | inr short ↦ subst (λ t. IsUnscanned t fault) (sym (same-text text kept is short)) h
+]
+
+scanned-whole : (text kept : List ℕ) (P : Toks → Type 0) → kept ≡ take kept_text text → IsScanned kept P → IsScanned text P
+scanned-whole text kept P is h = subst (λ t. IsScanned t P) (sym (same-text text kept is h.short)) h
+
+same-says : {A B : Type 0} (g : ℕ → Form A) (n : ℕ) (make : A → B) (text kept : List ℕ) (r : Result B TextFault) → kept ≡ take kept_text text → TextSays g n make kept r → TextSays g n make text r
+same-says g n make text kept (Err (Scan fault)) is h = unscanned-whole text kept fault is h
+same-says g n make text kept (Err (Parse fault)) is h = scanned-whole text kept (λ tokens. Says g n make tokens (Err fault)) is h
+same-says g n make text kept (Ok b) is h = scanned-whole text kept (λ tokens. Says g n make tokens (Ok b)) is h
+
+pub same-program : (text kept : List ℕ) (r : Result Tree TextFault) → kept ≡ take kept_text text → IfErr r IsOfText → TextSays program_at (LEVELS - 1) numbered_program kept r → IsProgramText text r
+same-program text kept r is of_text h = record { of_text = of_text; says = same-says program_at (LEVELS - 1) numbered_program text kept r is h }

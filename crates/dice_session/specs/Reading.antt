@@ -1,53 +1,60 @@
 -- What texts turn out to be: one that is to be loaded, and one that is to stand in the place of a statement.
-use Rattle.std.specs.Prelude.{◌≡◌, ℕ, ◌<◌, ◌≤◌, true, List, length, is_some}
-use Rattle.dice_base.specs.declared.token.TokenKind.{TokenKind}
+use Rattle.std.specs.Prelude.{◌≡◌, ℕ, ◌<◌, ◌≤◌, ◌-◌, List, length, Result, Ok, Err, IfErr}
+use Rattle.dice_base.specs.Tokens.{Toks}
 use Rattle.dice_base.specs.Lexemes.{Lexes}
-use Rattle.script_lines.specs.Front.{longest_text}
+use Rattle.dice_base.specs.Forms.{Form}
+use Rattle.pascal_scanner.specs.Unread.{Reports}
+use Rattle.pascal_scanner.specs.declared.limits.TheConstants.{MAX_TEXT_BYTES}
+use Rattle.pascal_scanner.specs.declared.fault.ScanFault.{ScanFault}
+use Rattle.pascal_scanner.specs.declared.fault.ScanFault.TheVariants.{TextTooLong}
+use Rattle.pascal_scanner.specs.declared.fault.ScanFault.TheVariants as scan
+use Rattle.token_reader.specs.Answers.{Says}
+use Rattle.token_reader.specs.declared.fault.ParseFault.TheVariants as parse
+use Rattle.pascal_tree.specs.declared.levels.TheConstants.{LEVELS}
 use Rattle.pascal_tree.specs.declared.program.Tree.{Tree}
 use Rattle.pascal_tree.specs.declared.stmt.Stmt.{Stmt}
-use Rattle.pascal_tree.specs.Programs.{Derives}
 use Rattle.pascal_tree.specs.Naming.{numbered_program}
-use Rattle.pascal_parser.specs.Whole.{DerivesStmt}
-use Rattle.simple_form.specs.Simple.{resolution_of}
+use Rattle.pascal_tree.specs.Programs.{program_at}
+use Rattle.pascal_tree.specs.Statements.{stmt_at}
+use Rattle.pascal_parser.specs.Named.{named_stmt}
+use Rattle.dice_session.specs.declared.reading.TextFault.{TextFault}
+use Rattle.dice_session.specs.declared.reading.TextFault.TheVariants.{Scan, Parse}
 
--- the tokens are a program of the grammar and of the forms that are built, whose items are named in the order of the
--- text
-pub record AreProgram (tokens : List TokenKind) (p : Tree) : Type 0 where
-  pub tree : Tree
-  pub derives : Derives tree tokens
-  pub named : p ≡ numbered_program tree
-  pub built : is_some (resolution_of p) ≡ true
+-- the text is not cut into tokens, for this reason; that it is too long comes before all others
+pub record IsUnscanned (text : List ℕ) (fault : ScanFault) : Type 0 where
+  pub first : MAX_TEXT_BYTES < length text → fault ≡ TextTooLong
+  pub reported : Reports fault text
 
--- the text is this program
-pub record IsTextOf (text : List ℕ) (p : Tree) : Type 0 where
-  pub tokens : List TokenKind
+-- the text is cut into tokens of which this is said
+pub record IsScanned (text : List ℕ) (Said : Toks → Type 0) : Type 0 where
+  pub short : length text ≤ MAX_TEXT_BYTES
+  pub tokens : Toks
   pub lexes : Lexes text tokens
-  pub program : AreProgram tokens p
+  pub said : Said tokens
 
--- a text that is too long, one of a form that is not built, or a program
-pub data Reading : Type 0 where
-  TooLong : Reading
-  NotBuilt : Reading
-  Program : (tree : Tree) → Reading
+-- what a result says of the text: what is made of the tree that its tokens spell within n levels, or why it is not read
+abbrev pub TextSays : {A B : Type 0} → (ℕ → Form A) → ℕ → (A → B) → List ℕ → Result B TextFault → Type 0
+TextSays g n make text (Err (Scan fault)) = IsUnscanned text fault
+TextSays g n make text (Err (Parse fault)) = IsScanned text (λ tokens. Says g n make tokens (Err fault))
+TextSays g n make text (Ok b) = IsScanned text (λ tokens. Says g n make tokens (Ok b))
+
+-- want of memory is no fault of a text
+abbrev pub IsOfText : TextFault → Type 0
+IsOfText (Scan scan.NoMemory) = ⊥
+IsOfText (Parse parse.NoMemory) = ⊥
+IsOfText fault = Unit {0}
 
 -- the text turns out to be this
-abbrev pub IsReading : List ℕ → Reading → Type 0
-IsReading text TooLong = longest_text < length text
-IsReading text NotBuilt = (length text ≤ longest_text) × ((p : Tree) → IsTextOf text p → ⊥)
-IsReading text (Program p) = (length text ≤ longest_text) × IsTextOf text p
+pub record IsTextOf
+    {A B : Type 0} (g : ℕ → Form A) (n : ℕ) (make : A → B) (text : List ℕ) (result : Result B TextFault)
+    : Type 0 where
+  pub of_text : IfErr result IsOfText
+  pub says : TextSays g n make text result
 
--- the text is this statement of the grammar, without names
-pub record IsTextOfStmt (text : List ℕ) (s : Stmt) : Type 0 where
-  pub tokens : List TokenKind
-  pub lexes : Lexes text tokens
-  pub derives : DerivesStmt s tokens
+-- a program, whose items have names, or why the text is none
+abbrev pub IsProgramText : List ℕ → Result Tree TextFault → Type 0
+IsProgramText text result = IsTextOf program_at (LEVELS - 1) numbered_program text result
 
--- what is to stand in the place of a statement: none that is read, or one
-pub data Substitute : Type 0 where
-  NoStatement : Substitute
-  OneStatement : (stmt : Stmt) → Substitute
-
--- the text turns out to be this in the place of a statement
-abbrev pub IsSubstitute : List ℕ → Substitute → Type 0
-IsSubstitute text NoStatement = (s : Stmt) → IsTextOfStmt text s → ⊥
-IsSubstitute text (OneStatement s) = IsTextOfStmt text s
+-- a statement, or why the text is none
+abbrev pub IsStmtText : List ℕ → Result Stmt TextFault → Type 0
+IsStmtText text result = IsTextOf stmt_at LEVELS named_stmt text result

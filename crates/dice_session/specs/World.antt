@@ -10,7 +10,11 @@ use Rattle.pascal_semantics.specs.Program.{program_of}
 use Rattle.pascal_semantics.specs.State.{Status, NotStarted, Halted, Ended, Failed, Activation, State, loaded_state}
 use Rattle.pascal_semantics.specs.Run.{run_of}
 use Rattle.pascal_semantics.specs.Valid.{code_room}
-use Rattle.simple_form.specs.Simple.{resolution_of, variables_in, is_built}
+use Rattle.pascal_scanner.specs.declared.fault.ScanFault.{ScanFault}
+use Rattle.pascal_scanner.specs.declared.fault.ScanFault.TheVariants as scan
+use Rattle.token_reader.specs.declared.fault.ParseFault.{ParseFault}
+use Rattle.token_reader.specs.declared.fault.ParseFault.TheVariants as parse
+use Rattle.simple_form.specs.Simple.{resolution_of}
 use Rattle.tree_edit.specs.declared.fault.EditFault.{EditFault}
 use Rattle.tree_edit.specs.declared.fault.EditFault.TheVariants as edit
 use Rattle.tree_edit.specs.Edited.{replaced_program}
@@ -19,7 +23,9 @@ use Rattle.dice_command.specs.declared.command.CommandFault.{CommandFault}
 use Rattle.dice_command.specs.declared.command.CommandFault.TheVariants.{LineTooLong, NotACommand, BadNumber}
 use Rattle.dice_command.specs.Command.{Asked, Blank, Load, Listing, Replace, Apply, Run, Quit, Unbuilt, Bad, command_of}
 use Rattle.dice_session.specs.Progress.{progress_of, is_over, is_halted}
-use Rattle.dice_session.specs.Reading.{Reading, TooLong, NotBuilt, Program, IsReading, Substitute, NoStatement, OneStatement, IsSubstitute}
+use Rattle.dice_session.specs.Reading.{IsProgramText, IsStmtText}
+use Rattle.dice_session.specs.declared.reading.TextFault.{TextFault}
+use Rattle.dice_session.specs.declared.reading.TextFault.TheVariants.{Scan, Parse}
 
 -- what the next line of the script is: a command; a line of a text that is to be loaded, behind these; or nothing,
 -- behind `quit`
@@ -39,13 +45,13 @@ pub record World : Type 0 where
 abbrev pub empty_world : World
 empty_world = record { present = None; draft = None; state = loaded_state; mode = Commands }
 
--- what a line is: a command line; one that puts a statement in the place of another; a line of a text; the end of a
--- text, which turns out to be this; or nothing
+-- what a line is: a command line; one that puts what its text turns out to be in the place of a statement; a line of a
+-- text; the end of a text, which turns out to be this; or nothing
 pub data Command : Type 0 where
   Line : Asked → Command
-  Puts : (name : ℕ) → Substitute → Command
+  Puts : (name : ℕ) → Result Stmt TextFault → Command
   TextLine : (line : List ℕ) → Command
-  TextEnd : Reading → Command
+  TextEnd : Result Tree TextFault → Command
   Nothing : Command
 
 -- the end of a text that is to be loaded
@@ -54,7 +60,7 @@ end_line = codes "."
 
 -- the command ends a text, which turns out to be this
 abbrev pub EndsText : List ℕ → Command → Type 0
-EndsText text c = (reading : Reading) × IsReading text reading × (c ≡ TextEnd reading)
+EndsText text c = (read : Result Tree TextFault) × IsProgramText text read × (c ≡ TextEnd read)
 
 -- the end line, or one more line of the text
 abbrev pub IsTextCommand : Bool → List ℕ → List ℕ → Command → Type 0
@@ -64,7 +70,7 @@ IsTextCommand false text line c = c ≡ TextLine line
 -- the text of a `replace` is read as a statement
 abbrev pub IsCommand : Asked → Command → Type 0
 IsCommand (Replace name text) c =
-    (statement : Substitute) × IsSubstitute text statement × (c ≡ Puts name statement)
+    (read : Result Stmt TextFault) × IsStmtText text read × (c ≡ Puts name read)
 IsCommand asked c = c ≡ Line asked
 
 -- in this mode, the line is this command
@@ -100,6 +106,34 @@ refusal w text = host_reply w (reply_line text)
 abbrev pub if_program : Option Tree → World → (Tree → Reply) → Reply
 if_program None w reply = refusal w (codes "no program")
 if_program (Some p) w reply = reply p
+
+-- ---- texts that are not read
+
+-- why a text is not cut into tokens, with the place, a byte of the text that is counted from 0
+abbrev pub scan_fault_text : ScanFault → List ℕ
+scan_fault_text (scan.BadCharacter at) = codes "scan fault character at " ++ decimal at
+scan_fault_text (scan.OpenComment at) = codes "scan fault comment at " ++ decimal at
+scan_fault_text (scan.OpenString at) = codes "scan fault string at " ++ decimal at
+scan_fault_text (scan.NumberTooLarge at) = codes "scan fault number at " ++ decimal at
+scan_fault_text scan.TextTooLong = codes "text too long"
+scan_fault_text scan.NoMemory = []
+
+-- why tokens are not read; they are counted from 0
+abbrev pub parse_fault_text : ParseFault → List ℕ
+parse_fault_text (parse.Unexpected token) = codes "parse fault at token " ++ decimal token
+parse_fault_text parse.EndsEarly = codes "parse fault end"
+parse_fault_text parse.TooDeep = codes "too deep"
+parse_fault_text parse.NoMemory = []
+
+-- why a text is not read; none is for want of memory, where there is no reply at all
+abbrev pub text_fault_text : TextFault → List ℕ
+text_fault_text (Scan fault) = scan_fault_text fault
+text_fault_text (Parse fault) = parse_fault_text fault
+
+-- what comes of a text, where it is read
+abbrev pub if_read : {A : Type 0} → Result A TextFault → World → (A → Reply) → Reply
+if_read (Err fault) w reply = refusal w (text_fault_text fault)
+if_read (Ok tree) w reply = reply tree
 
 -- ---- runs
 
@@ -187,27 +221,29 @@ abbrev pub load_reply : World → Tree → List Statement → Reply
 load_reply w p ss =
     if_fits ss w (machine_reply (record (with_program w p) { draft = Some p }) (loaded_line ss))
 
+-- a program is refused that is of no form that is built
+abbrev pub if_built : Option (List Statement) → World → (List Statement → Reply) → Reply
+if_built None w reply = refusal w (codes "not built")
+if_built (Some ss) w reply = reply ss
+
+-- the program of a text is loaded, where it is built
+abbrev pub program_reply : World → Tree → Reply
+program_reply w p = if_built (resolution_of p) w (load_reply w p)
+
 -- what comes of the end of a text, by what it turns out to be
-abbrev pub text_reply : World → Reading → Reply
-text_reply w TooLong = refusal w (codes "text too long")
-text_reply w NotBuilt = refusal w (codes "not built")
-text_reply w (Program p) = load_reply w p (statements_of p)
+abbrev pub text_reply : World → Result Tree TextFault → Reply
+text_reply w read = if_read read w (program_reply w)
 
 -- not yet where the present program is stopped at a statement
 abbrev pub unless_halted : World → Reply → Reply
 unless_halted w reply =
     if is_halted (progress_of w.state.status) then refusal w (codes "not built") else reply
 
--- a program is refused that has a statement without a block
-abbrev pub if_built : Option (List Statement) → World → (List Statement → Reply) → Reply
-if_built None w reply = refusal w (codes "not built")
-if_built (Some ss) w reply = reply ss
-
 -- the draft becomes the present program
 abbrev pub apply_fitting : World → Tree → List Statement → Reply
 apply_fitting w p ss = if_fits ss w (unless_halted w (begun_reply w p ss))
 
--- the draft becomes the present program, where all of it is built
+-- the draft becomes the present program, where it is built
 abbrev pub apply_reply : World → Tree → Reply
 apply_reply w p = if_built (resolution_of p) w (apply_fitting w p)
 
@@ -235,12 +271,13 @@ edit_reply w name (Err fault) = refusal w (edit_fault_text fault)
 abbrev pub replace_reply : World → ℕ → Stmt → Tree → Reply
 replace_reply w name s p = edit_reply w name (replaced_program name s p)
 
--- a statement is put in the place of another, where it is one of the forms that are built
-abbrev pub put_reply : World → ℕ → Substitute → Reply
-put_reply w name NoStatement = refusal w (codes "not built")
-put_reply w name (OneStatement s) =
-    if is_built (variables_in w.draft) s then if_program w.draft w (replace_reply w name s)
-    else refusal w (codes "not built")
+-- any statement is put in the place of another, where there is a draft
+abbrev pub into_draft : World → ℕ → Stmt → Reply
+into_draft w name s = if_program w.draft w (replace_reply w name s)
+
+-- what comes of a text that is to stand in the place of a statement, by what it turns out to be
+abbrev pub put_reply : World → ℕ → Result Stmt TextFault → Reply
+put_reply w name read = if_read read w (into_draft w name)
 
 -- ---- all commands
 

@@ -1,23 +1,22 @@
 //! The draft: its listing, its edits, and how it becomes the present program.
-ghost use Rattle.std.specs.Prelude.{◌≡◌, ◌≤◌, ◌++◌, ℕ, List, length, Some, OnOk};
+ghost use Rattle.std.specs.Prelude.{◌≡◌, ◌++◌, ℕ, List, Some, OnOk};
 ghost use Rattle.pascal_tree.specs.declared.program.Tree.{Tree};
 ghost use Rattle.pdp11_machine.specs.State.{MachineState};
 ghost use Rattle.simple_form.specs.Simple.{resolution_of};
 ghost use Rattle.dice_command.specs.Command.{Replace};
-ghost use Rattle.dice_session.specs.Reading.{OneStatement};
 ghost use Rattle.dice_session.specs.Readings.{AreNamed};
-ghost use Rattle.dice_session.specs.World.{World, Commands, if_program, list_reply, put_reply, replace_reply, apply_reply, edit_fault_text, reply_line};
+ghost use Rattle.dice_session.specs.World.{World, Commands, if_program, list_reply, into_draft, apply_reply, edit_fault_text, reply_line};
 ghost use Rattle.dice_session.specs.SessionOf.{IsSessionOf, Obeyed, Became};
 
 use crate::reading::read_statement;
-use crate::reply::{push_edited, push_full, refuse, refuse_edit};
+use crate::reply::{push_edited, push_full, refuse, refuse_edit, refuse_text};
 use crate::session::Session;
 use dice_base::{Name, NoMemory, Text};
 use pascal_print::print_program;
 use pascal_semantics::{MAX_PROGRAM_WORDS, Statement, code_words};
 use pascal_tree::Stmt;
 use pdp11_machine::Machine;
-use simple_form::{is_built, resolve_program};
+use simple_form::resolve_program;
 use std::alloc::Global;
 use tree_edit::replace;
 
@@ -42,24 +41,12 @@ impl Session {
         text: &[u8],
         out: &mut Text,
     ) -> Result<(), NoMemory>
-        requires { length text.now ≤ 4096 }
         ensures { OnOk result ((w : World) (machine : MachineState) → IsSessionOf w self.old machine
             → Obeyed w (Replace name text.now) out.old out.new machine self.new machine) }
     {
-        match read_statement(alloc, text)? {
-            None => refuse(alloc, out, b"not built"),
-            Some(stmt) => self.put(alloc, name, &stmt, out),
-        }
-    }
-
-    fn put(&mut self, alloc: Global, name: u32, stmt: &Stmt, out: &mut Text) -> Result<(), NoMemory>
-        ensures { OnOk result ((w : World) (machine : MachineState) → IsSessionOf w self.old machine
-            → Became (put_reply w name (OneStatement stmt.now)) out.old out.new machine self.new machine) }
-    {
-        if is_built(alloc, self.draft.as_ref(), stmt)? {
-            self.edit(alloc, name, stmt, out)
-        } else {
-            refuse(alloc, out, b"not built")
+        match read_statement(alloc, text) {
+            Ok(stmt) => self.edit(alloc, name, stmt.get(), out),
+            Err(fault) => refuse_text(alloc, out, fault),
         }
     }
 
@@ -71,8 +58,7 @@ impl Session {
         out: &mut Text,
     ) -> Result<(), NoMemory>
         ensures { OnOk result ((w : World) (machine : MachineState) → IsSessionOf w self.old machine
-            → Became (if_program w.draft w (replace_reply w name stmt.now)) out.old out.new
-            machine self.new machine) }
+            → Became (into_draft w name stmt.now) out.old out.new machine self.new machine) }
     {
         let Some(draft) = &mut self.draft else {
             return refuse(alloc, out, b"no program");

@@ -4,11 +4,15 @@ ghost use Rattle.std.specs.Fmt.{decimal};
 ghost use Rattle.tree_edit.specs.declared.fault.EditFault.TheVariants.{NoMemory as WantsMemory};
 ghost use Rattle.pascal_semantics.specs.Charge.{program_charge, charges_of};
 ghost use Rattle.pascal_semantics.specs.Valid.{code_room};
-ghost use Rattle.dice_session.specs.World.{reply_line, loaded_line, written_part, full_words, edit_fault_text};
+ghost use Rattle.dice_session.specs.Reading.{IsOfText};
+ghost use Rattle.dice_session.specs.World.{reply_line, loaded_line, written_part, full_words, edit_fault_text, scan_fault_text, parse_fault_text, text_fault_text};
 ghost use Rattle.dice_session.specs.Places.{ending_text};
 
 use crate::place::name_at;
-use dice_base::{Name, NoMemory, Text, push_decimal};
+use crate::reading::TextFault;
+use dice_base::{NoMemory, Text, push_decimal};
+use pascal_parser::ParseFault;
+use pascal_scanner::ScanFault;
 use pascal_semantics::Statement;
 use std::alloc::Global;
 use target_monitor::GoEnd;
@@ -57,12 +61,50 @@ pub(crate) fn push_edited(alloc: Global, out: &mut Text, name: u32) -> Result<()
     out.push(alloc, b'\n')
 }
 
-fn push_named(alloc: Global, out: &mut Text, text: &[u8], name: Name) -> Result<(), NoMemory>
-    ensures { OnOk result (out.new ≡ out.old ++ reply_line (text.now ++ decimal name.0)) }
+// A reply of one line that ends with a number.
+fn refuse_at(alloc: Global, out: &mut Text, text: &[u8], number: u32) -> Result<(), NoMemory>
+    ensures { OnOk result (out.new ≡ out.old ++ reply_line (text.now ++ decimal number)) }
 {
     out.append(alloc, text)?;
-    push_decimal(alloc, out, u64::from(name.0))?;
+    push_decimal(alloc, out, u64::from(number))?;
     out.push(alloc, b'\n')
+}
+
+fn refuse_scan(alloc: Global, out: &mut Text, fault: ScanFault) -> Result<(), NoMemory>
+    ensures value { OnOk result (out.new ≡ out.old ++ reply_line (scan_fault_text fault)) }
+    ensures told { OnOk result (IsOfText (TextFault.Scan fault)) }
+{
+    match fault {
+        ScanFault::BadCharacter(at) => refuse_at(alloc, out, b"scan fault character at ", at),
+        ScanFault::OpenComment(at) => refuse_at(alloc, out, b"scan fault comment at ", at),
+        ScanFault::OpenString(at) => refuse_at(alloc, out, b"scan fault string at ", at),
+        ScanFault::NumberTooLarge(at) => refuse_at(alloc, out, b"scan fault number at ", at),
+        ScanFault::TextTooLong => refuse(alloc, out, b"text too long"),
+        ScanFault::NoMemory => Err(NoMemory),
+    }
+}
+
+fn refuse_parse(alloc: Global, out: &mut Text, fault: ParseFault) -> Result<(), NoMemory>
+    ensures value { OnOk result (out.new ≡ out.old ++ reply_line (parse_fault_text fault)) }
+    ensures told { OnOk result (IsOfText (TextFault.Parse fault)) }
+{
+    match fault {
+        ParseFault::Unexpected(token) => { refuse_at(alloc, out, b"parse fault at token ", token) }
+        ParseFault::EndsEarly => refuse(alloc, out, b"parse fault end"),
+        ParseFault::TooDeep => refuse(alloc, out, b"too deep"),
+        ParseFault::NoMemory => Err(NoMemory),
+    }
+}
+
+/// Why a text is not read.
+pub(crate) fn refuse_text(alloc: Global, out: &mut Text, fault: TextFault) -> Result<(), NoMemory>
+    ensures value { OnOk result (out.new ≡ out.old ++ reply_line (text_fault_text fault)) }
+    ensures told { OnOk result (IsOfText fault) }
+{
+    match fault {
+        TextFault::Scan(fault) => refuse_scan(alloc, out, fault),
+        TextFault::Parse(fault) => refuse_parse(alloc, out, fault),
+    }
 }
 
 /// Why an edit is refused.
@@ -71,8 +113,8 @@ pub(crate) fn refuse_edit(alloc: Global, out: &mut Text, fault: EditFault) -> Re
     ensures told { OnOk result (¬ (fault ≡ WantsMemory)) }
 {
     match fault {
-        EditFault::NoSuchName(name) => push_named(alloc, out, b"no such name ", name),
-        EditFault::WrongKind(name) => push_named(alloc, out, b"wrong kind ", name),
+        EditFault::NoSuchName(name) => refuse_at(alloc, out, b"no such name ", name.0),
+        EditFault::WrongKind(name) => refuse_at(alloc, out, b"wrong kind ", name.0),
         EditFault::TooDeep => refuse(alloc, out, b"too deep"),
         EditFault::NamesSpent => refuse(alloc, out, b"names spent"),
         EditFault::NoMemory => Err(NoMemory),

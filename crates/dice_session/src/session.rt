@@ -6,15 +6,15 @@ ghost use Rattle.pascal_tree.specs.declared.program.Tree.{Tree};
 ghost use Rattle.simple_form.specs.Simple.{resolution_of};
 ghost use Rattle.pascal_semantics.specs.Valid.{IsProgram};
 ghost use Rattle.dice_command.specs.Command.{asked, Blank, Load, Quit, IsWellRead};
-ghost use Rattle.dice_session.specs.Readings.{AreNamed, AreStatements};
-ghost use Rattle.dice_session.specs.World.{World, Commands, Loading, empty_world, missing_end, asked_reply, load_reply, if_program, run_reply, reply_line, end_line, fault_text, begun_reply, full_text};
+ghost use Rattle.dice_session.specs.Readings.{AreNamed};
+ghost use Rattle.dice_session.specs.World.{World, Commands, Loading, empty_world, missing_end, asked_reply, program_reply, load_reply, if_program, run_reply, reply_line, end_line, fault_text, begun_reply, full_text};
 ghost use Rattle.dice_session.specs.SessionOf.{IsSessionOf, Replied, Obeyed, Became, IsOver, ending_if, kept_text};
 ghost use Rattle.dice_session.specs.Texts.{ReadsText};
 
 use crate::loading::load;
 use crate::progress::{Progress, progress_after};
-use crate::reading::{Found, read_program};
-use crate::reply::{push_full, refuse};
+use crate::reading::read_program;
+use crate::reply::{push_full, refuse, refuse_text};
 use crate::running::run;
 use crate::text::with_line;
 use console_service::Console;
@@ -23,6 +23,7 @@ use dice_command::{CommandFault, LineCommand, parse_command};
 use pascal_semantics::{MAX_PROGRAM_WORDS, Statement, code_words};
 use pdp11_machine::Machine;
 use program_tree::Program;
+use simple_form::resolve_program;
 use std::alloc::Global;
 
 /// A session: the present program, the draft, and what the next line of the script is. The program's state is that of
@@ -204,17 +205,30 @@ impl Session {
             → w.mode ≡ Commands → text.now ≡ take kept_text t
             → ReadsText w t out.old out.new machine.old self.new machine.new) }
     {
-        match read_program(alloc, text)? {
-            Found::TooLong => refuse(alloc, out, b"text too long"),
-            Found::NotBuilt => refuse(alloc, out, b"not built"),
-            Found::Program(program, statements) => {
-                self.load(alloc, program, statements, machine, out)
-            }
+        match read_program(alloc, text) {
+            Ok(program) => self.load(alloc, program, machine, out),
+            Err(fault) => refuse_text(alloc, out, fault),
         }
     }
 
-    // The program is the present one and the draft, where its blocks fit.
+    // The program is the present one and the draft, where it is built and its blocks fit.
     fn load(
+        &mut self,
+        alloc: Global,
+        program: Program,
+        machine: &mut Machine,
+        out: &mut Text,
+    ) -> Result<(), NoMemory>
+        ensures { OnOk result ((w : World) → IsSessionOf w self.old machine.old → w.mode ≡ Commands
+            → Became (program_reply w program) out.old out.new machine.old self.new machine.new) }
+    {
+        match resolve_program(alloc, &program)? {
+            Some(simple) => self.load_statements(alloc, program, simple.statements, machine, out),
+            None => refuse(alloc, out, b"not built"),
+        }
+    }
+
+    fn load_statements(
         &mut self,
         alloc: Global,
         program: Program,
@@ -222,7 +236,8 @@ impl Session {
         machine: &mut Machine,
         out: &mut Text,
     ) -> Result<(), NoMemory>
-        requires { AreStatements program statements.items }
+        requires resolves { resolution_of program ≡ Some statements.items }
+        requires named { AreNamed statements.items }
         ensures { OnOk result ((w : World) → IsSessionOf w self.old machine.old → w.mode ≡ Commands
             → Became (load_reply w program statements.items) out.old out.new machine.old self.new machine.new) }
     {

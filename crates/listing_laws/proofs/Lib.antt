@@ -1,7 +1,6 @@
 pub mod Column
-pub mod Gaps
-pub mod Layouts
+mod Examples
 pub mod ListedNames
+pub mod Moved
 pub mod ReadsBack
-pub mod Spellings
 pub mod Unnamed

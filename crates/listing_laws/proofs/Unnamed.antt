@@ -7,10 +7,10 @@ use Rattle.dice_base.specs.declared.token.TokenKind.{TokenKind}
 use Rattle.dice_base.specs.declared.token.TokenKind.TheVariants.{Ident, Number}
 use Rattle.dice_base.specs.Tokens.{Toks}
 use Rattle.dice_base.specs.Symbols.{end_word, of_word, var_word, semicolon_sign, colon_sign, period_sign, begin_word, case_word, const_word, do_word, else_word, goto_word, if_word, label_word, repeat_word, then_word, type_word, until_word, while_word, with_word, becomes_sign}
-use Rattle.pascal_tree.specs.declared.stmt.Stmt.{Stmt, Stmt-F}
+use Rattle.pascal_tree.specs.declared.stmt.Stmt.{Stmt}
 use Rattle.pascal_tree.specs.declared.stmt.StmtKind.{StmtKind, StmtKind-F, roll-StmtKind}
-use Rattle.pascal_tree.specs.declared.stmt.Arm.{Arm, Arm-F, roll-Arm}
-use Rattle.pascal_tree.specs.declared.stmt.StmtKind.TheFolds.{map-StmtKind, map-Arm, map-Stmt, fold-roll-StmtKind, fold-roll-Stmt, fold-roll-Arm}
+use Rattle.pascal_tree.specs.declared.stmt.Arm.{Arm, roll-Arm}
+use Rattle.pascal_tree.specs.declared.stmt.StmtKind.TheFolds.{map-StmtKind, fold-roll-StmtKind, fold-roll-Stmt, fold-roll-Arm}
 use Rattle.pascal_tree.specs.declared.decl.Decl.{Decl}
 use Rattle.pascal_tree.specs.declared.decl.Heading.{Heading}
 use Rattle.pascal_tree.specs.declared.decl.Block.{Block, Block-F}
@@ -27,7 +27,7 @@ use Rattle.pascal_print.specs.declared.event.Event.TheVariants.{Token}
 use Rattle.pascal_print.specs.Events as events
 use Rattle.pascal_print.specs.Events.{Laid, tokens_of, said, label_tokens, tested, range, child, more, sequence, ended, labels, declaration, part, in_kind, in_arm, in_stmt, in_block, in_routine, stmt_events, kind_events, arm_events, block_events, routine_events, program_tokens}
 use Rattle.own_tokens.proofs.EventTokens.{tokens-append, tokens-child}
-use Rattle.tree_laws.proofs.Folds.{Kinds, Arms, Stmts, Agree, agreed, Blocks, Routines, AgreeOnBlocks, agreed_block}
+use Rattle.tree_laws.proofs.Folds.{Agree, agreed, AgreeOnBlocks, agreed_block}
 
 -- ---- events whose tokens are the same
 
@@ -58,7 +58,8 @@ token-alike : {a b : List Event} (t : TokenKind) → SameTokens a b → SameToke
 token-alike t p = record { same = ap (λ (ts : Toks). t ∷ ts) p.same }
 
 child-alike : {f g : Laid} → Alike f g → (level : ℕ) → SameTokens (child f level) (child g level)
-child-alike {f} {g} h level = record { same = tokens-child f level ∙ (h.laid (level + 1)).same ∙ sym (tokens-child g level) }
+child-alike {f} {g} h level =
+    record { same = tokens-child f level ∙ (h.laid (level + 1)).same ∙ sym (tokens-child g level) }
 
 children-alike : {fs gs : List Laid} → AreAlike fs gs → AreAlike (map child fs) (map child gs)
 children-alike none = none
@@ -107,39 +108,64 @@ abbrev kind_of : StmtKind-F KindPart ArmPart StmtPart → StmtKind-F StmtKind Ar
 kind_of = map-StmtKind KindPart ArmPart StmtPart StmtKind Arm Stmt (λ e. e.0) (λ e. e.0) (λ e. e.0)
 
 abbrev kind_tree_events : StmtKind-F KindPart ArmPart StmtPart → Laid
-kind_tree_events y = in_kind (map-StmtKind StmtKind Arm Stmt Laid Laid Laid kind_events arm_events stmt_events (kind_of y))
+kind_tree_events y =
+    in_kind (map-StmtKind StmtKind Arm Stmt Laid Laid Laid kind_events arm_events stmt_events (kind_of y))
 
 abbrev kind_part_events : StmtKind-F KindPart ArmPart StmtPart → Laid
 kind_part_events y = in_kind (map-StmtKind KindPart ArmPart StmtPart Laid Laid Laid (λ e. e.1) (λ e. e.1) (λ e. e.1) y)
 
-layer-alike : (y : StmtKind-F KindPart ArmPart StmtPart) (level : ℕ) → SameTokens (kind_tree_events y level) (kind_part_events y level)
+layer-alike : (y : StmtKind-F KindPart ArmPart StmtPart) (level : ℕ) → SameTokens (kind_tree_events y level)
+    (kind_part_events y level)
 layer-alike StmtKind-F.Empty level = self []
 layer-alike (StmtKind-F.Assign a e) level = self (said (access_tokens a ++ becomes_sign ∷ expr_tokens e))
 layer-alike (StmtKind-F.Call x args) level = self (said (Ident x ∷ args_tokens args))
 layer-alike (StmtKind-F.Goto n) level = self (said (goto_word ∷ Number n ∷ []))
 layer-alike (StmtKind-F.Compound ys) level =
-    token-alike begin_word (append-alike (sequence-alike (children-alike (alike-events stmt_events ys)) level) (self (Token end_word ∷ [])))
+    token-alike begin_word
+    (append-alike (sequence-alike (children-alike (alike-events stmt_events ys)) level)
+    (self (Token end_word ∷ [])))
 layer-alike (StmtKind-F.If e y None) level =
     append-alike (append-alike (self (tested if_word e then_word)) (child-alike y.2 level)) (self [])
 layer-alike (StmtKind-F.If e y (Some z)) level =
-    append-alike (append-alike (self (tested if_word e then_word)) (child-alike y.2 level)) (token-alike else_word (child-alike z.2 level))
+    append-alike (append-alike (self (tested if_word e then_word)) (child-alike y.2 level))
+    (token-alike else_word (child-alike z.2 level))
 layer-alike (StmtKind-F.Case e ys) level =
-    append-alike (append-alike (self (tested case_word e of_word)) (sequence-alike (alike-events arm_events ys) level)) (self (Token end_word ∷ []))
+    append-alike
+    (append-alike (self (tested case_word e of_word)) (sequence-alike (alike-events arm_events ys) level))
+    (self (Token end_word ∷ []))
 layer-alike (StmtKind-F.While e y) level = append-alike (self (tested while_word e do_word)) (child-alike y.2 level)
 layer-alike (StmtKind-F.Repeat ys e) level =
-    token-alike repeat_word (append-alike (sequence-alike (children-alike (alike-events stmt_events ys)) level) (self (said (until_word ∷ expr_tokens e))))
-layer-alike (StmtKind-F.For x first down last y) level = append-alike (self (said (range x first down last))) (child-alike y.2 level)
+    token-alike repeat_word
+    (append-alike (sequence-alike (children-alike (alike-events stmt_events ys)) level)
+    (self (said (until_word ∷ expr_tokens e))))
+layer-alike (StmtKind-F.For x first down last y) level =
+    append-alike (self (said (range x first down last))) (child-alike y.2 level)
 layer-alike (StmtKind-F.With records y) level =
     append-alike (self (said (with_word ∷ accesses_tokens records ++ do_word ∷ []))) (child-alike y.2 level)
 
 stmts-alike : Agree roll-StmtKind roll-Arm without.in_stmt in_kind in_arm in_stmt KindAlike ArmAlike StmtAlike
 unfolding kind_events arm_events stmt_events
 stmts-alike = record {
-  kinds = λ y. subst (λ (f : Laid). Alike f (kind_part_events y)) (sym (fold-roll-StmtKind Laid Laid Laid in_kind in_arm in_stmt (kind_of y))) (record { laid = layer-alike y });
-  arms = λ y. subst (λ (f : Laid). Alike f (in_arm (record { constants = y.constants; body = y.body.1 }))) (sym (fold-roll-Arm Laid Laid Laid in_kind in_arm in_stmt (record { constants = y.constants; body = y.body.0 })))
-      (record { laid = λ level. append-alike (self (said (constants_tokens y.constants ++ colon_sign ∷ []))) (child-alike y.body.2 level) });
-  stmts = λ y. subst (λ (f : Laid). Alike f (in_stmt (record { name = y.name; label = y.label; kind = y.kind.1 }))) (sym (fold-roll-Stmt Laid Laid Laid in_kind in_arm in_stmt (record { name = no_name; label = y.label; kind = y.kind.0 })))
-      (record { laid = λ level. record { same = (append-alike (self (said (label_tokens y.label))) (y.kind.2.laid level)).same } });
+  kinds =
+      λ y. subst (λ (f : Laid). Alike f (kind_part_events y))
+      (sym (fold-roll-StmtKind Laid Laid Laid in_kind in_arm in_stmt (kind_of y)))
+      (record { laid = layer-alike y });
+  arms =
+      λ y. subst (λ (f : Laid). Alike f (in_arm (record { constants = y.constants; body = y.body.1 })))
+      (sym (fold-roll-Arm Laid Laid Laid in_kind in_arm in_stmt
+      (record { constants = y.constants; body = y.body.0 })))
+      (record {
+        laid = λ level. append-alike (self (said (constants_tokens y.constants ++ colon_sign ∷ [])))
+            (child-alike y.body.2 level);
+      });
+  stmts =
+      λ y. subst (λ (f : Laid). Alike f (in_stmt (record { name = y.name; label = y.label; kind = y.kind.1 })))
+      (sym (fold-roll-Stmt Laid Laid Laid in_kind in_arm in_stmt
+      (record { name = no_name; label = y.label; kind = y.kind.0 })))
+      (record {
+        laid = λ level. record
+            { same = (append-alike (self (said (label_tokens y.label))) (y.kind.2.laid level)).same };
+      });
 }
 
 pub stmt-tokens-unnamed : (s : Stmt) → StmtAlike (unnamed_stmt s) (stmt_events s)
@@ -165,7 +191,8 @@ decls-alike : (ds : List Decl) → AreAlike (map declaration (map unnamed_decl d
 decls-alike [] = none
 decls-alike (d ∷ ds) = next (record { laid = λ level. record { same = refl } }) (decls-alike ds)
 
-part-alike : (word : TokenKind) (ds : List Decl) (level : ℕ) → SameTokens (part word (map unnamed_decl ds) level) (part word ds level)
+part-alike : (word : TokenKind) (ds : List Decl) (level : ℕ)
+    → SameTokens (part word (map unnamed_decl ds) level) (part word ds level)
 part-alike word [] level = self []
 part-alike word (d ∷ ds) level = record { same = (token-alike word (ended-alike (decls-alike (d ∷ ds)) level)).same }
 
@@ -198,8 +225,13 @@ block-layer y level =
     (child-alike (stmt-tokens-unnamed y.body) level)
 
 routine-layer : (name : Name) (heading : Heading) (block : Option BlockPart)
-    → RoutineAlike (without.in_routine (map-Routine BlockPart RoutinePart Block Routine (λ e. e.0) (λ e. e.0) (record { name = name; heading = heading; block = block })))
-    (in_routine (map-Routine BlockPart RoutinePart Laid Laid (λ e. e.1) (λ e. e.1) (record { name = name; heading = heading; block = block })))
+    → RoutineAlike
+    (without.in_routine
+    (map-Routine BlockPart RoutinePart Block Routine (λ e. e.0) (λ e. e.0)
+    (record { name = name; heading = heading; block = block })))
+    (in_routine
+    (map-Routine BlockPart RoutinePart Laid Laid (λ e. e.1) (λ e. e.1)
+    (record { name = name; heading = heading; block = block })))
 unfolding block_events routine_events
 routine-layer name heading None =
     subst (λ (f : Laid). Alike f (in_routine (record { name = name; heading = heading; block = None })))
@@ -208,7 +240,12 @@ routine-layer name heading None =
 routine-layer name heading (Some y) =
     subst (λ (f : Laid). Alike f (in_routine (record { name = name; heading = heading; block = Some y.1 })))
     (sym (fold-roll-Routine Laid Laid in_block in_routine (bare_routine heading (Some y.0))))
-    (record { laid = λ level. record { same = (append-alike (self (said (heading_tokens heading ++ semicolon_sign ∷ []))) (y.2.laid level)).same } })
+    (record {
+      laid = λ level. record {
+        same = (append-alike (self (said (heading_tokens heading ++ semicolon_sign ∷ [])))
+            (y.2.laid level)).same;
+      };
+    })
 
 blocks-alike : AgreeOnBlocks without.in_block without.in_routine in_block in_routine BlockAlike RoutineAlike
 unfolding block_events routine_events
@@ -222,8 +259,10 @@ blocks-alike = record {
 
 block-tokens-unnamed : (b : Block) → BlockAlike (unnamed_block b) (block_events b)
 unfolding unnamed_block block_events
-block-tokens-unnamed = agreed_block without.in_block without.in_routine in_block in_routine BlockAlike RoutineAlike blocks-alike
+block-tokens-unnamed =
+    agreed_block without.in_block without.in_routine in_block in_routine BlockAlike RoutineAlike blocks-alike
 
 pub program-tokens-unnamed : (p : Tree) → program_tokens (unnamed_program p) ≡ program_tokens p
 program-tokens-unnamed p =
-    (append-alike (append-alike (self (said (events.heading p))) ((block-tokens-unnamed p.block).laid 0)) (self (Token period_sign ∷ []))).same
+    (append-alike (append-alike (self (said (events.heading p))) ((block-tokens-unnamed p.block).laid 0))
+    (self (Token period_sign ∷ []))).same

@@ -23,7 +23,8 @@ number_in_front line =
 abbrev pub first_column : List ℕ → List ℕ
 first_column text = flat_map number_in_front (lines_of text)
 
--- of a program that some text spells, the first column has the names of the items, in the order of the text
+-- of a program that some text spells, the first column has the names of the items, in the order of the text; each name
+-- has 32 bits, as a `Name` does
 abbrev pub ListsNames : Tree → List ℕ → Type 0
 ListsNames p text =
     HasSource p → AllByRecursion (λ n. n < 2 ^ 32) (program_names p) → first_column text ≡ program_names p

@@ -17,7 +17,7 @@ use Rattle.pascal_tree.specs.declared.typing.FieldText.{FieldText}
 use Rattle.pascal_tree.specs.Classes.{comma_class, semicolon_class}
 use Rattle.pascal_tree.specs.Joined.{join}
 use Rattle.pascal_tree.specs.Expressions.{signs}
-use Rattle.pascal_tree.specs.Declarations.{make_field, constant_form, idents_form, simple_form, field_form, record_in, array_in, set_in, struct_form, type_form, simple_at, type_at, labels_form, constdef_form, typedef_form, vardef_form, section_in, section_form, params_form, procedure_in, function_in, heading_form}
+use Rattle.pascal_tree.specs.Declarations.{make_field, constant_form, idents_form, simple_form, field_form, struct_form, type_form, simple_at, type_at, labels_form, constdef_form, typedef_form, vardef_form, section_in, section_form, params_form, heading_form}
 use Rattle.pascal_tree.specs.ExprTokens.{prefix_tokens, comma_list, in_parens}
 use Rattle.pascal_tree.specs.DeclTokens.{constant_tokens, constants_tokens, idents_tokens, packed_tokens, in_type, in_field, type_tokens, field_tokens, decl_tokens, var_tokens, section_tokens, heading_tokens}
 use Rattle.own_tokens.proofs.Written.{IsClassOf, sign_is, Writes, Written, done, refused, choice, behind, last, word, sign, operators, identifier, number, string, list, ended, parens}
@@ -33,7 +33,8 @@ type-opened x = fold-roll-TypeText Toks Toks in_type in_field x
 type-named : (x : List ℕ) → type_tokens (typed.Named x) ≡ Ident x ∷ []
 type-named x = ap type_tokens (sym (rolls-Named x)) ∙ type-opened (TypeText-F.Named x)
 
-enumeration-made : (xs : List (List ℕ)) → type_tokens (typed.Enumeration xs) ≡ open_sign ∷ (idents_tokens xs ++ close_sign ∷ [])
+enumeration-made : (xs : List (List ℕ)) → type_tokens (typed.Enumeration xs) ≡ open_sign ∷
+    (idents_tokens xs ++ close_sign ∷ [])
 enumeration-made xs = ap type_tokens (sym (rolls-Enumeration xs)) ∙ type-opened (TypeText-F.Enumeration xs)
 
 range-made : (c d : Constant) → type_tokens (typed.Range c d) ≡ constant_tokens c ++ range_sign ∷ constant_tokens d
@@ -43,23 +44,29 @@ pointer-made : (x : List ℕ) → type_tokens (typed.Pointer x) ≡ arrow_sign �
 pointer-made x = ap type_tokens (sym (rolls-Pointer x)) ∙ type-opened (TypeText-F.Pointer x)
 
 array-made : (packed : Bool) (indexes : List TypeText) (t : TypeText) → type_tokens (typed.Array packed indexes t)
-    ≡ packed_tokens packed ++ array_word ∷ left_sign ∷ (comma_list (map type_tokens indexes) ++ right_sign ∷ of_word ∷ type_tokens t)
+    ≡ packed_tokens packed ++ array_word ∷ left_sign ∷
+    (comma_list (map type_tokens indexes) ++ right_sign ∷ of_word ∷ type_tokens t)
 array-made packed indexes t =
     ap type_tokens (sym (rolls-Array packed indexes t)) ∙ type-opened (TypeText-F.Array packed indexes t)
-    ∙ append_assoc (packed_tokens packed) (array_word ∷ left_sign ∷ (comma_list (map type_tokens indexes) ++ right_sign ∷ [])) (of_word ∷ type_tokens t)
+    ∙ append_assoc (packed_tokens packed)
+    (array_word ∷ left_sign ∷ (comma_list (map type_tokens indexes) ++ right_sign ∷ []))
+    (of_word ∷ type_tokens t)
     ∙ ap (λ (ts : Toks). packed_tokens packed ++ array_word ∷ left_sign ∷ ts)
     (append_assoc (comma_list (map type_tokens indexes)) (right_sign ∷ []) (of_word ∷ type_tokens t))
 
-set-made : (packed : Bool) (t : TypeText) → type_tokens (typed.SetOf packed t) ≡ packed_tokens packed ++ set_word ∷ of_word ∷ type_tokens t
+set-made : (packed : Bool) (t : TypeText) → type_tokens (typed.SetOf packed t)
+    ≡ packed_tokens packed ++ set_word ∷ of_word ∷ type_tokens t
 set-made packed t = ap type_tokens (sym (rolls-SetOf packed t)) ∙ type-opened (TypeText-F.SetOf packed t)
 
 record-made : (packed : Bool) (fields : List FieldText) → type_tokens (typed.RecordOf packed fields)
     ≡ packed_tokens packed ++ record_word ∷ (join (semicolon_sign ∷ []) (map field_tokens fields) ++ end_word ∷ [])
 record-made packed fields =
     ap type_tokens (sym (rolls-RecordOf packed fields)) ∙ type-opened (TypeText-F.RecordOf packed fields)
-    ∙ append_assoc (packed_tokens packed) (record_word ∷ join (semicolon_sign ∷ []) (map field_tokens fields)) (end_word ∷ [])
+    ∙ append_assoc (packed_tokens packed) (record_word ∷ join (semicolon_sign ∷ []) (map field_tokens fields))
+    (end_word ∷ [])
 
-field-made : (xs : List (List ℕ)) (t : TypeText) → field_tokens (make_field xs t) ≡ idents_tokens xs ++ colon_sign ∷ type_tokens t
+field-made : (xs : List (List ℕ)) (t : TypeText) → field_tokens (make_field xs t)
+    ≡ idents_tokens xs ++ colon_sign ∷ type_tokens t
 unfolding type_tokens field_tokens
 field-made xs t = fold-roll-FieldText Toks Toks in_type in_field (record { idents = xs; shape = t })
 
@@ -93,7 +100,8 @@ module _ {P : TokenKind → Type 0} where
       (behind constant-written (λ c w. sign signs.RANGE (last constant-written (λ d w. range-made c d)))))
 
 -- where it holds of an index type or a base, and of a type, one level further in
-module _ {P : TokenKind → Type 0} {I T : Form TypeText} (index : Written P I type_tokens) (inner : Written P T type_tokens) where
+module _ {P : TokenKind → Type 0} {I T : Form TypeText} (index : Written P I type_tokens)
+    (inner : Written P T type_tokens) where
   field-written : Written P (field_form I T) field_tokens
   field-written = behind idents-written (λ xs w. sign signs.COLON (last inner (λ t w. field-made xs t)))
 

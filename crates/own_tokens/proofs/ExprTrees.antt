@@ -4,7 +4,7 @@ use Rattle.std.proofs.Common.{sym, ap, ◌∙◌, append_assoc}
 use Rattle.std.specs.Option.{option_map}
 use Rattle.dice_base.specs.declared.token.TokenKind.TheVariants as token
 use Rattle.dice_base.specs.Tokens.{Toks}
-use Rattle.dice_base.specs.Symbols.{nil_word, not_word, open_sign, close_sign, left_sign, right_sign, period_sign, colon_sign, range_sign, arrow_sign}
+use Rattle.dice_base.specs.Symbols.{nil_word, not_word, open_sign, close_sign, period_sign, colon_sign, range_sign, arrow_sign}
 use Rattle.pascal_tree.specs.declared.expr.Prefix.{Prefix}
 use Rattle.pascal_tree.specs.declared.expr.AddOp.{AddOp}
 use Rattle.pascal_tree.specs.declared.expr.MulOp.{MulOp}
@@ -33,7 +33,7 @@ use Rattle.pascal_tree.specs.ExprTokens.{in_part, in_factor, in_access, in_addin
 
 pub expr-made : (x : SumExpr) (rest : Option RelPart)
     → expr_tokens (make_expr x rest) ≡ sum_tokens x ++ optional_part (option_map relation_tokens rest)
-unfolding part_tokens factor_tokens access_tokens adding_tokens arg_tokens expr_tokens multiplying_tokens relation_tokens member_tokens sum_tokens term_tokens
+unfolding expr_tokens sum_tokens relation_tokens
 expr-made x None =
     fold-roll-Expr Toks Toks Toks Toks Toks Toks Toks Toks Toks Toks Toks
     in_part in_factor in_access in_adding in_arg in_expr in_multiplying in_relation in_member in_sum in_term
@@ -44,7 +44,7 @@ expr-made x (Some r) =
     (record { first = x; rest = Some r })
 
 pub rel-made : (o : RelOp) (x : SumExpr) → relation_tokens (make_rel o x) ≡ rel_token o ∷ sum_tokens x
-unfolding part_tokens factor_tokens access_tokens adding_tokens arg_tokens expr_tokens multiplying_tokens relation_tokens member_tokens sum_tokens term_tokens
+unfolding relation_tokens sum_tokens
 rel-made o x =
     fold-roll-RelPart Toks Toks Toks Toks Toks Toks Toks Toks Toks Toks Toks
     in_part in_factor in_access in_adding in_arg in_expr in_multiplying in_relation in_member in_sum in_term
@@ -52,7 +52,7 @@ rel-made o x =
 
 pub sum-made : (p : Prefix) (x : Term) (rest : List AddPart)
     → sum_tokens (make_sum p x rest) ≡ prefix_tokens p ++ (term_tokens x ++ flat (map adding_tokens rest))
-unfolding part_tokens factor_tokens access_tokens adding_tokens arg_tokens expr_tokens multiplying_tokens relation_tokens member_tokens sum_tokens term_tokens
+unfolding sum_tokens term_tokens adding_tokens
 sum-made p x rest =
     fold-roll-SumExpr Toks Toks Toks Toks Toks Toks Toks Toks Toks Toks Toks
     in_part in_factor in_access in_adding in_arg in_expr in_multiplying in_relation in_member in_sum in_term
@@ -60,7 +60,7 @@ sum-made p x rest =
     ∙ append_assoc (prefix_tokens p) (term_tokens x) (flat (map adding_tokens rest))
 
 pub add-made : (o : AddOp) (x : Term) → adding_tokens (make_add o x) ≡ add_token o ∷ term_tokens x
-unfolding part_tokens factor_tokens access_tokens adding_tokens arg_tokens expr_tokens multiplying_tokens relation_tokens member_tokens sum_tokens term_tokens
+unfolding adding_tokens term_tokens
 add-made o x =
     fold-roll-AddPart Toks Toks Toks Toks Toks Toks Toks Toks Toks Toks Toks
     in_part in_factor in_access in_adding in_arg in_expr in_multiplying in_relation in_member in_sum in_term
@@ -68,14 +68,14 @@ add-made o x =
 
 pub term-made : (x : Factor) (rest : List MulPart)
     → term_tokens (make_term x rest) ≡ factor_tokens x ++ flat (map multiplying_tokens rest)
-unfolding part_tokens factor_tokens access_tokens adding_tokens arg_tokens expr_tokens multiplying_tokens relation_tokens member_tokens sum_tokens term_tokens
+unfolding term_tokens factor_tokens multiplying_tokens
 term-made x rest =
     fold-roll-Term Toks Toks Toks Toks Toks Toks Toks Toks Toks Toks Toks
     in_part in_factor in_access in_adding in_arg in_expr in_multiplying in_relation in_member in_sum in_term
     (record { first = x; rest = rest })
 
 pub mul-made : (o : MulOp) (x : Factor) → multiplying_tokens (make_mul o x) ≡ mul_token o ∷ factor_tokens x
-unfolding part_tokens factor_tokens access_tokens adding_tokens arg_tokens expr_tokens multiplying_tokens relation_tokens member_tokens sum_tokens term_tokens
+unfolding multiplying_tokens factor_tokens
 mul-made o x =
     fold-roll-MulPart Toks Toks Toks Toks Toks Toks Toks Toks Toks Toks Toks
     in_part in_factor in_access in_adding in_arg in_expr in_multiplying in_relation in_member in_sum in_term
@@ -87,7 +87,8 @@ factor-opened : (x : Factor-F AccessPart Factor Access AddPart Arg Expr MulPart 
     → factor_tokens (roll-Factor x)
     ≡ in_factor (map-Factor AccessPart Factor Access AddPart Arg Expr MulPart RelPart SetMember SumExpr Term
     Toks Toks Toks Toks Toks Toks Toks Toks Toks Toks Toks
-    part_tokens factor_tokens access_tokens adding_tokens arg_tokens expr_tokens multiplying_tokens relation_tokens member_tokens sum_tokens term_tokens x)
+    part_tokens factor_tokens access_tokens adding_tokens arg_tokens expr_tokens multiplying_tokens relation_tokens
+    member_tokens sum_tokens term_tokens x)
 unfolding part_tokens factor_tokens access_tokens adding_tokens arg_tokens expr_tokens multiplying_tokens relation_tokens member_tokens sum_tokens term_tokens
 factor-opened x =
     fold-roll-Factor Toks Toks Toks Toks Toks Toks Toks Toks Toks Toks Toks
@@ -124,7 +125,7 @@ not-made x = ap factor_tokens (sym (rolls-Not x)) ∙ factor-opened (Factor-F.No
 
 pub member-made : (e : Expr) (end : Option Expr)
     → member_tokens (make_member e end) ≡ expr_tokens e ++ optional_part_after range_sign (option_map expr_tokens end)
-unfolding part_tokens factor_tokens access_tokens adding_tokens arg_tokens expr_tokens multiplying_tokens relation_tokens member_tokens sum_tokens term_tokens
+unfolding member_tokens expr_tokens
 member-made e None =
     fold-roll-SetMember Toks Toks Toks Toks Toks Toks Toks Toks Toks Toks Toks
     in_part in_factor in_access in_adding in_arg in_expr in_multiplying in_relation in_member in_sum in_term
@@ -136,7 +137,7 @@ member-made e (Some x) =
 
 pub arg-made : (e : Expr) (width : Option Expr)
     → arg_tokens (make_arg e width) ≡ expr_tokens e ++ optional_part_after colon_sign (option_map expr_tokens width)
-unfolding part_tokens factor_tokens access_tokens adding_tokens arg_tokens expr_tokens multiplying_tokens relation_tokens member_tokens sum_tokens term_tokens
+unfolding arg_tokens expr_tokens
 arg-made e None =
     fold-roll-Arg Toks Toks Toks Toks Toks Toks Toks Toks Toks Toks Toks
     in_part in_factor in_access in_adding in_arg in_expr in_multiplying in_relation in_member in_sum in_term
@@ -148,7 +149,7 @@ arg-made e (Some x) =
 
 pub access-made : (x : List ℕ) (parts : List AccessPart)
     → access_tokens (make_access x parts) ≡ token.Ident x ∷ flat (map part_tokens parts)
-unfolding part_tokens factor_tokens access_tokens adding_tokens arg_tokens expr_tokens multiplying_tokens relation_tokens member_tokens sum_tokens term_tokens
+unfolding access_tokens part_tokens
 access-made x parts =
     fold-roll-Access Toks Toks Toks Toks Toks Toks Toks Toks Toks Toks Toks
     in_part in_factor in_access in_adding in_arg in_expr in_multiplying in_relation in_member in_sum in_term
@@ -158,7 +159,8 @@ part-opened : (x : AccessPart-F AccessPart Factor Access AddPart Arg Expr MulPar
     → part_tokens (roll-AccessPart x)
     ≡ in_part (map-AccessPart AccessPart Factor Access AddPart Arg Expr MulPart RelPart SetMember SumExpr Term
     Toks Toks Toks Toks Toks Toks Toks Toks Toks Toks Toks
-    part_tokens factor_tokens access_tokens adding_tokens arg_tokens expr_tokens multiplying_tokens relation_tokens member_tokens sum_tokens term_tokens x)
+    part_tokens factor_tokens access_tokens adding_tokens arg_tokens expr_tokens multiplying_tokens relation_tokens
+    member_tokens sum_tokens term_tokens x)
 unfolding part_tokens factor_tokens access_tokens adding_tokens arg_tokens expr_tokens multiplying_tokens relation_tokens member_tokens sum_tokens term_tokens
 part-opened x =
     fold-roll-AccessPart Toks Toks Toks Toks Toks Toks Toks Toks Toks Toks Toks

@@ -23,20 +23,58 @@ use Rattle.own_tokens.proofs.ExprTrees.{expr-made, rel-made, sum-made, add-made,
 -- ---- the tokens of operators
 
 mul_classes : AreClasses (λ o. mul_token o ∷ []) mul_ops
-mul_classes =
-    (times_sign, refl, sign_is signs.TIMES, (div_word, refl, word_is words.DIV,
-    (mod_word, refl, word_is words.MOD, (and_word, refl, word_is words.AND, tt))))
+mul_classes = (
+  times_sign,
+  refl,
+  sign_is signs.TIMES,
+  (
+    div_word,
+    refl,
+    word_is words.DIV,
+    (mod_word, refl, word_is words.MOD, (and_word, refl, word_is words.AND, tt)),
+  ),
+)
 
 add_classes : AreClasses (λ o. add_token o ∷ []) add_ops
-add_classes =
-    (plus_sign, refl, sign_is signs.PLUS, (minus_sign, refl, sign_is signs.MINUS, (or_word, refl, word_is words.OR, tt)))
+add_classes = (
+  plus_sign,
+  refl,
+  sign_is signs.PLUS,
+  (minus_sign, refl, sign_is signs.MINUS, (or_word, refl, word_is words.OR, tt)),
+)
 
 rel_classes : AreClasses (λ o. rel_token o ∷ []) rel_ops
-rel_classes =
-    (equal_sign, refl, sign_is signs.EQUAL, (not_equal_sign, refl, sign_is signs.NOT_EQUAL,
-    (less_sign, refl, sign_is signs.LESS, (greater_sign, refl, sign_is signs.GREATER,
-    (at_most_sign, refl, sign_is signs.AT_MOST, (at_least_sign, refl, sign_is signs.AT_LEAST,
-    (in_word, refl, word_is words.IN, tt)))))))
+rel_classes = (
+  equal_sign,
+  refl,
+  sign_is signs.EQUAL,
+  (
+    not_equal_sign,
+    refl,
+    sign_is signs.NOT_EQUAL,
+    (
+      less_sign,
+      refl,
+      sign_is signs.LESS,
+      (
+        greater_sign,
+        refl,
+        sign_is signs.GREATER,
+        (
+          at_most_sign,
+          refl,
+          sign_is signs.AT_MOST,
+          (
+            at_least_sign,
+            refl,
+            sign_is signs.AT_LEAST,
+            (in_word, refl, word_is words.IN, tt),
+          ),
+        ),
+      ),
+    ),
+  ),
+)
 
 pub sign_classes : AreClasses prefix_tokens signs
 sign_classes = (plus_sign, refl, sign_is signs.PLUS, (minus_sign, refl, sign_is signs.MINUS, tt))
@@ -95,7 +133,8 @@ module _ {P : TokenKind → Type 0} {E : Form Expr} (inner : Written P E expr_to
   call-some x args w u (found, v, y, z, e, h, (t, v2, y2, z2, e2, class, (made, flag, rest))) =
       call-made x args
       ∙ ap (λ (ts : Toks). Ident x ∷ ts)
-      (subst (λ (as' : List Arg). args_tokens as' ≡ open_sign ∷ (comma_list (map arg_tokens as') ++ close_sign ∷ [])) (sym made)
+      (subst (λ (as' : List Arg). args_tokens as' ≡ open_sign ∷
+      (comma_list (map arg_tokens as') ++ close_sign ∷ [])) (sym made)
       (in-parens comma_class (arg_form E) comma_sign arg_tokens found v y h))
 
   module _ {N : Form Factor} (operand : Written P N factor_tokens) where
@@ -104,7 +143,9 @@ module _ {P : TokenKind → Type 0} {E : Form Expr} (inner : Written P E expr_to
         choice (last number (λ n w. number-made n))
         (choice (last string (λ x w. string-made x))
         (choice (word words.NIL (done nil-made))
-        (choice (choice (behind identifier (λ x w. sign signs.OPEN (last_known args-in-written (λ args w u h. call-some x args w u h))))
+        (choice (choice
+        (behind identifier
+        (λ x w. sign signs.OPEN (last_known args-in-written (λ args w u h. call-some x args w u h))))
         (last access-written (λ a w. variable-made a)))
         (choice (sign signs.LEFT members-written)
         (choice (sign signs.OPEN (behind inner (λ e w. sign signs.CLOSE (done (paren-made e)))))
@@ -120,7 +161,9 @@ module _ {P : TokenKind → Type 0} {F : Form Factor} (inner : Written P F facto
   term-written = behind inner (λ x w. last (items mul-written) (λ rest w. term-made x rest))
 
   add-written : Written P (add_form F) adding_tokens
-  add-written = behind (operators (λ o. add_token o ∷ []) add_ops add_classes) (λ o w. last term-written (λ x w. add-made o x))
+  add-written =
+      behind (operators (λ o. add_token o ∷ []) add_ops add_classes)
+      (λ o w. last term-written (λ x w. add-made o x))
 
   sum-written : Written P (sum_form F) sum_tokens
   sum-written =
@@ -128,7 +171,8 @@ module _ {P : TokenKind → Type 0} {F : Form Factor} (inner : Written P F facto
 
   rel-written : Written P (rel_form F) (λ rest. optional_part (option_map relation_tokens rest))
   rel-written =
-      choice (behind (operators (λ o. rel_token o ∷ []) rel_ops rel_classes) (λ o w. last sum-written (λ x w. rel-made o x))) (done refl)
+      choice (behind (operators (λ o. rel_token o ∷ []) rel_ops rel_classes)
+      (λ o w. last sum-written (λ x w. rel-made o x))) (done refl)
 
   expr-written_in : Written P (expr_form F) expr_tokens
   expr-written_in = behind sum-written (λ x w. last rel-written (λ rest w. expr-made x rest))

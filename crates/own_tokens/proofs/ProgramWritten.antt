@@ -1,5 +1,5 @@
 -- Statements, blocks and programs are spelled by their own tokens.
-use Rattle.std.specs.Prelude.{◌≡◌, ℕ, zero, suc, ◌+◌, ◌*◌, ◌-◌, Bool, true, false, cond, List, [], ◌∷◌, ◌++◌, Option, Some, None, map, codes, bytes_eq}
+use Rattle.std.specs.Prelude.{◌≡◌, ℕ, zero, suc, ◌+◌, ◌*◌, ◌-◌, Bool, true, false, cond, List, [], ◌∷◌, ◌++◌, Some, None, map, codes, bytes_eq}
 use Rattle.std.proofs.Common.{refl, sym, ap, ◌∙◌, append-nil}
 use Rattle.std.specs.Cmp.Lexicographic.{same_text}
 use Rattle.std.specs.List.{AllByRecursion}
@@ -9,7 +9,7 @@ use Rattle.dice_base.specs.declared.symbols.words.TheConstants as words
 use Rattle.dice_base.specs.declared.symbols.signs.TheConstants as signs
 use Rattle.dice_base.specs.Tokens.{Toks}
 use Rattle.dice_base.specs.Forms.{Form, just, one, chain, token}
-use Rattle.dice_base.specs.Symbols.{const_word, downto_word, else_word, if_word, then_word, to_word, type_word, var_word, comma_sign, semicolon_sign}
+use Rattle.dice_base.specs.Symbols.{downto_word, if_word, then_word, to_word, comma_sign, semicolon_sign}
 use Rattle.pascal_tree.specs.declared.levels.TheConstants.{LEVELS}
 use Rattle.pascal_tree.specs.declared.expr.Expr.{Expr}
 use Rattle.pascal_tree.specs.declared.stmt.Stmt.{Stmt}
@@ -21,14 +21,13 @@ use Rattle.pascal_tree.specs.declared.decl.Routine.{Routine}
 use Rattle.pascal_tree.specs.declared.decl.Block.{Block}
 use Rattle.pascal_tree.specs.declared.program.Tree.{Tree}
 use Rattle.pascal_tree.specs.Classes.{semicolon_class}
-use Rattle.pascal_tree.specs.Expressions.{access_form, expr_at}
-use Rattle.pascal_tree.specs.Statements.{directions, assign_form, call_form, compound_in, else_form, if_in, arm_form, case_in, while_in, repeat_in, for_in, with_in, kind_form, stmt_form, stmt_at}
+use Rattle.pascal_tree.specs.Statements.{directions, compound_in, else_form, if_in, arm_form, case_in, while_in, repeat_in, for_in, with_in, kind_form, stmt_form, stmt_at}
 use Rattle.pascal_tree.specs.Programs.{ended_form, labels_part, decls_part, forward_of, block_form, routine_form, files_form, program_form, body_at, routine_at, block_at, program_at, Derives}
 use Rattle.pascal_tree.specs.Joined.{join}
-use Rattle.pascal_tree.specs.ExprTokens.{in_parens, expr_tokens, access_tokens, accesses_tokens}
-use Rattle.pascal_tree.specs.DeclTokens.{ident_tokens, constants_tokens, type_tokens, decl_tokens}
+use Rattle.pascal_tree.specs.ExprTokens.{in_parens, expr_tokens}
+use Rattle.pascal_tree.specs.DeclTokens.{ident_tokens, type_tokens, decl_tokens}
 use Rattle.pascal_print.specs.Events.{direction, program_tokens}
-use Rattle.own_tokens.proofs.Written.{some_of, word_is, sign_is, AreClasses, Writes, Written, own-spell, own-among, done, refused, choice, behind, last, single, word, sign, operators, identifier, number, items, some_items, list, ended, parens}
+use Rattle.own_tokens.proofs.Written.{some_of, word_is, AreClasses, Writes, Written, own-spell, own-among, done, refused, choice, behind, last, single, word, sign, operators, identifier, number, items, some_items, list, ended, parens}
 use Rattle.own_tokens.proofs.ExprWritten.{comma_is, access-written, accesses-written, args-written, expr-written}
 use Rattle.own_tokens.proofs.DeclWritten.{semicolon_is, constants-written, type-written, labels-written, constdef-written, typedef-written, vardef-written, heading-written}
 use Rattle.own_tokens.proofs.EventTokens.{stmt_tokens, kind_tokens, arm_tokens, stmt-made, arm-made, empty-made, assign-made, call-made, goto-made, compound-made, repeat-made, while-made, if-made, if_else-made, case-made, for-made, with-made, ended_tokens, part_tokens, labels_tokens, block_tokens, routine_tokens, routine_ended, block-made, forward-made, routine-made, program-made}
@@ -40,7 +39,8 @@ direction_classes = (to_word, refl, word_is words.TO, (downto_word, refl, word_i
 -- expression of the statement, and A one that is one level further in
 
 module _ {P : TokenKind → Type 0} {E A : Form Expr} {S : Form Stmt} {Q : Form (List Stmt)}
-    (here : Written P E expr_tokens) (further : Written P A expr_tokens) (inner : (level : ℕ) → Written P S (stmt_tokens level))
+    (here : Written P E expr_tokens) (further : Written P A expr_tokens)
+    (inner : (level : ℕ) → Written P S (stmt_tokens level))
     (sequence : (level : ℕ) → Written P Q (λ xs. join (semicolon_sign ∷ []) (map (stmt_tokens level) xs))) where
   pub compound-written : (level : ℕ) → Writes P (λ z. Word words.BEGIN ∷ z) (compound_in E A S Q) (kind_tokens level)
   compound-written level =
@@ -48,14 +48,18 @@ module _ {P : TokenKind → Type 0} {E A : Form Expr} {S : Form Stmt} {Q : Form 
 
   -- an `if` that ends with its first branch
   if-ended : (level : ℕ) (c : Expr) (x : Stmt)
-      → Writes P (λ z. if_word ∷ (expr_tokens c ++ then_word ∷ (stmt_tokens (level + 1) x ++ z))) (just (s.If c x None) true) (kind_tokens level)
+      → Writes P (λ z. if_word ∷ (expr_tokens c ++ then_word ∷ (stmt_tokens (level + 1) x ++ z)))
+      (just (s.If c x None) true) (kind_tokens level)
   if-ended level c x =
-      done (if-made level c x ∙ ap (λ (ts : Toks). if_word ∷ (expr_tokens c ++ then_word ∷ ts)) (sym (append-nil (stmt_tokens (level + 1) x))))
+      done (if-made level c x ∙ ap (λ (ts : Toks). if_word ∷ (expr_tokens c ++ then_word ∷ ts))
+      (sym (append-nil (stmt_tokens (level + 1) x))))
 
   else-written : (level : ℕ) (c : Expr) (x : Stmt) (w : Bool)
-      → Writes P (λ z. if_word ∷ (expr_tokens c ++ then_word ∷ (stmt_tokens (level + 1) x ++ z))) (else_form E A S Q c x w) (kind_tokens level)
+      → Writes P (λ z. if_word ∷ (expr_tokens c ++ then_word ∷ (stmt_tokens (level + 1) x ++ z)))
+      (else_form E A S Q c x w) (kind_tokens level)
   else-written level c x true = if-ended level c x
-  else-written level c x false = choice (word words.ELSE (last (inner (level + 1)) (λ y w. if_else-made level c x y))) (if-ended level c x)
+  else-written level c x false =
+      choice (word words.ELSE (last (inner (level + 1)) (λ y w. if_else-made level c x y))) (if-ended level c x)
 
   if-written : (level : ℕ) → Writes P (λ z. Word words.IF ∷ z) (if_in E A S Q) (kind_tokens level)
   if-written level =
@@ -63,17 +67,23 @@ module _ {P : TokenKind → Type 0} {E A : Form Expr} {S : Form Stmt} {Q : Form 
 
   arm-written : (level : ℕ) → Written P (arm_form E A S Q) (arm_tokens level)
   arm-written level =
-      behind constants-written (λ constants w. sign signs.COLON (last (inner (level + 1)) (λ body w. arm-made level constants body)))
+      behind constants-written
+      (λ constants w. sign signs.COLON (last (inner (level + 1)) (λ body w. arm-made level constants body)))
 
   case-written : (level : ℕ) → Writes P (λ z. Word words.CASE ∷ z) (case_in E A S Q) (kind_tokens level)
   case-written level =
-      behind here (λ e w. word words.OF (behind (ended semicolon_is (arm-written level)) (λ arms w. word words.END (done (case-made level e arms)))))
+      behind here
+      (λ e w. word words.OF
+      (behind (ended semicolon_is (arm-written level))
+      (λ arms w. word words.END (done (case-made level e arms)))))
 
   while-written : (level : ℕ) → Writes P (λ z. Word words.WHILE ∷ z) (while_in E A S Q) (kind_tokens level)
-  while-written level = behind here (λ c w. word words.DO (last (inner (level + 1)) (λ body w. while-made level c body)))
+  while-written level =
+      behind here (λ c w. word words.DO (last (inner (level + 1)) (λ body w. while-made level c body)))
 
   repeat-written : (level : ℕ) → Writes P (λ z. Word words.REPEAT ∷ z) (repeat_in E A S Q) (kind_tokens level)
-  repeat-written level = behind (sequence (level + 1)) (λ body w. word words.UNTIL (last here (λ c w. repeat-made level body c)))
+  repeat-written level =
+      behind (sequence (level + 1)) (λ body w. word words.UNTIL (last here (λ c w. repeat-made level body c)))
 
   for-written : (level : ℕ) → Writes P (λ z. Word words.FOR ∷ z) (for_in E A S Q) (kind_tokens level)
   for-written level =
@@ -96,7 +106,8 @@ module _ {P : TokenKind → Type 0} {E A : Form Expr} {S : Form Stmt} {Q : Form 
       (choice (word words.FOR (for-written level))
       (choice (word words.WITH (with-written level))
       (choice (word words.GOTO (last number (λ n w. goto-made level n)))
-      (choice (choice (behind (access-written further) (λ a w. sign signs.BECOMES (last here (λ e w. assign-made level a e))))
+      (choice (choice
+      (behind (access-written further) (λ a w. sign signs.BECOMES (last here (λ e w. assign-made level a e))))
       (behind identifier (λ x w. last (args-written further) (λ args w. call-made level x args))))
       (done (empty-made level))))))))))
 
@@ -111,7 +122,8 @@ module _ {P : TokenKind → Type 0} where
   unfolding stmt_at
   stmt-written zero level = refused
   stmt-written (suc d) level =
-      stmt-written_in (expr-written (suc d)) (expr-written d) (stmt-written d) (λ level. list semicolon_is (stmt-written d level)) level
+      stmt-written_in (expr-written (suc d)) (expr-written d) (stmt-written d)
+      (λ level. list semicolon_is (stmt-written d level)) level
 
 -- ---- the declarations of a block
 
@@ -122,13 +134,15 @@ module _ {P : TokenKind → Type 0} where
   labels-part-written : Written P labels_part labels_tokens
   labels-part-written = choice (word words.LABEL (last (ended-written labels-written) (λ d w. refl))) (done refl)
 
-  decls-part-written : {K : Form DeclKind} (k : ℕ) → Written P K decl_tokens → Written P (decls_part (6 * k) K) (part_tokens (Word k))
+  decls-part-written : {K : Form DeclKind} (k : ℕ) → Written P K decl_tokens → Written P (decls_part (6 * k) K)
+      (part_tokens (Word k))
   decls-part-written k inner = choice (word k (some_items (ended-written inner) (λ d ds. refl))) (done refl)
 
   -- the directive is an identifier
   forward-written : Written P (one forward_of) (λ x. Ident (codes "forward") ∷ [])
   forward-written = single gives where
-    settled : (x : List ℕ) (y : Unit {0}) (b : Bool) → bytes_eq x (codes "forward") ≡ b → cond b (some_of tt) None ≡ some_of y → Ident (codes "forward") ∷ [] ≡ Ident x ∷ []
+    settled : (x : List ℕ) (y : Unit {0}) (b : Bool) → bytes_eq x (codes "forward") ≡ b
+        → cond b (some_of tt) None ≡ some_of y → Ident (codes "forward") ∷ [] ≡ Ident x ∷ []
     settled x y true is known = ap (λ (z : List ℕ). Ident z ∷ []) (sym (same_text x (codes "forward") (sym is)))
     settled x y false is known = absurd cc
 
@@ -143,7 +157,8 @@ module _ {P : TokenKind → Type 0} where
 -- ---- blocks and routines, where it holds of types, and of a routine and a body one level further in
 
 module _ {P : TokenKind → Type 0} {T : Form TypeText} {R : Form Routine} {B : Form StmtKind}
-    (types : Written P T type_tokens) (routine : (level : ℕ) → Written P R (routine_tokens level)) (body : (level : ℕ) → Written P B (kind_tokens level)) where
+    (types : Written P T type_tokens) (routine : (level : ℕ) → Written P R (routine_tokens level))
+    (body : (level : ℕ) → Written P B (kind_tokens level)) where
   ended-routine : (level : ℕ) → Written P (chain R (λ r _. token semicolon_class (just r false))) (routine_ended level)
   ended-routine level = behind (routine (level + 1)) (λ r w. sign signs.SEMICOLON (done refl))
 
@@ -177,7 +192,9 @@ module _ {P : TokenKind → Type 0} where
   unfolding body_at
   body-written zero level = refused
   body-written (suc d) level =
-      word words.BEGIN (compound-written (expr-written (suc d)) (expr-written d) (stmt-written d) (λ level. list semicolon_is (stmt-written d level)) level)
+      word words.BEGIN
+      (compound-written (expr-written (suc d)) (expr-written d) (stmt-written d)
+      (λ level. list semicolon_is (stmt-written d level)) level)
 
   routine-written : (d level : ℕ) → Written P (routine_at d) (routine_tokens level)
   unfolding routine_at
@@ -197,5 +214,6 @@ pub program-derives : (p : Tree) (ts : Toks) → Derives p ts → Derives p (pro
 program-derives p ts h = own-spell (program-written {P = λ t. Unit {0}} (LEVELS - 1)) p false ts h
 
 -- and each of these is one of those
-pub program-among : (P : TokenKind → Type 0) (p : Tree) (ts : Toks) → Derives p ts → AllByRecursion P ts → AllByRecursion P (program_tokens p)
+pub program-among : (P : TokenKind → Type 0) (p : Tree) (ts : Toks) → Derives p ts → AllByRecursion P ts
+    → AllByRecursion P (program_tokens p)
 program-among P p ts h = own-among (program-written {P = P} (LEVELS - 1)) p false ts h

@@ -166,6 +166,14 @@ pub read-stands : (text : List ℕ) (at : ℕ) (tokens : List Token) → IsRead 
 read-stands text at tokens r h =
     let whole : at ≡ length text = omega (arith, h, r.within) in subst (λ (n : ℕ). StandWithin text 0 n tokens) whole r.stand
 
+-- each token takes a byte at least
+stand-count : (text : List ℕ) (from to : ℕ) (tokens : List Token) → StandWithin text from to tokens → from + length tokens ≤ to
+stand-count text from to [] s = omega (arith, s.0)
+stand-count text from to (t ∷ ts) s = omega (arith, s.0.0, s.1, stand-count text t.span.to to ts s.3)
+
+pub stand-few : (text : List ℕ) (tokens : List Token) (most : ℕ) → Stand text tokens → length text ≤ most → length tokens ≤ most
+stand-few text tokens most s short = omega (arith, stand-count text 0 (length text) tokens s, short)
+
 pub read-stuck : (R : List ℕ → Type 0) (text : List ℕ) (at : ℕ) (tokens : List Token) → IsRead text at tokens → IsStuck (drop at text) × R (drop at text) → IsUnread text at R × HasNoTokens text
 read-stuck R text at tokens r h = (
   record {

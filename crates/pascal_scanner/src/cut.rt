@@ -70,6 +70,7 @@ pub fn scan(alloc: Global, text: &[u8]) -> Result<Vec<Token>, ScanFault>
         Lexes text.now list → list ≡ map (λ t. t.kind) tokens.items) }
     // Each stands where its span says, with separators and comments alone between.
     ensures spans { IfOk result (λ tokens. Stand text.now tokens.items) }
+    ensures few { IfOk result (λ tokens. length tokens.items ≤ MAX_TEXT_BYTES) }
     ensures long { IsErrOf result ScanFault.TextTooLong ↔ (MAX_TEXT_BYTES < length text.now) }
     // The first place that is left, and why. A text has one fault with a place at most.
     ensures fault { IfErr result (λ e. Reports e text.now) }

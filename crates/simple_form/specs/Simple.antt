@@ -1,7 +1,7 @@
 -- Simple programs, and what their identifiers stand for (ISO 7185:1990, 6.2.2 scopes, 6.5.1 variables, 6.8.2.2
 -- assignment, 6.9.4 writeln). Each function answers for one alternative of the grammar, and None where that is not
 -- built.
-use Rattle.std.specs.Prelude.{◌≡◌, ℕ, Bool, true, false, ◌&&◌, not, nat_le, if◌then◌else◌, List, [], ◌∷◌, ◌++◌, length, Option, Some, None, is_some, unwrap_or, codes, bytes_eq, map}
+use Rattle.std.specs.Prelude.{◌≡◌, ℕ, Bool, true, false, ◌&&◌, not, nat_le, if◌then◌else◌, List, [], ◌∷◌, ◌++◌, length, Option, Some, None, is_some, codes, bytes_eq, map}
 use Rattle.dice_base.specs.Lexemes.{place_of}
 use Rattle.pascal_tree.specs.declared.expr.Prefix.{Prefix}
 use Rattle.pascal_tree.specs.declared.expr.Prefix.TheVariants.{Without}
@@ -211,10 +211,6 @@ stmt_leaves vars = fold-Stmt (ℕ → Leaves) Leaves Leaves (leaves_of_kind vars
 abbrev pub stmts_leaves : Texts → List Stmt → Leaves
 stmts_leaves vars ss = leaves_in_turn (map (stmt_leaves vars) ss)
 
--- the statement is of the forms that are built
-abbrev pub is_built : Texts → Stmt → Bool
-is_built vars s = is_some (stmt_leaves vars s)
-
 -- ---- programs
 
 -- an identifier that hides none of those that a simple program uses
@@ -270,14 +266,6 @@ resolution_over (Some vars) body = stmt_leaves vars body
 -- the program's statements, resolved, each with the name that it has in the program
 abbrev pub resolution_of : Tree → Leaves
 resolution_of p = resolution_over (declared_variables p) (out-Block p.block).body
-
--- the variables over which a statement is built; a program that declares something else has none, nor has no program
-abbrev pub variables_of : Tree → Texts
-variables_of p = unwrap_or (declared_variables p) []
-
-abbrev pub variables_in : Option Tree → Texts
-variables_in None = []
-variables_in (Some p) = variables_of p
 
 -- ---- the answer of the code
 

@@ -8,4 +8,4 @@ mod operands;
 mod program;
 mod statements;
 
-pub use program::{SimpleProgram, is_built, resolve_program};
+pub use program::{SimpleProgram, resolve_program};

@@ -139,21 +139,3 @@ pub fn resolve_program(alloc: Global, program: &Program) -> Result<Option<Simple
 {
     resolve_tree(alloc, program.tree())
 }
-
-fn variables_in(program: Option<&Program>) -> &[Text]
-    ensures value { result.now ≡ spec.variables_in (option_copied program.entry) }
-    ensures few { length result.now ≤ 64 }
-{
-    match program {
-        Some(program) => declared_variables(program.tree()).unwrap_or(&[]),
-        None => &[],
-    }
-}
-
-/// Whether a statement is of the forms that are built, over the variables of the program, if there is one.
-pub fn is_built(alloc: Global, program: Option<&Program>, stmt: &Stmt) -> Result<bool, NoMemory>
-    ensures { IfOk result (λ b. b ≡ spec.is_built (spec.variables_in (option_copied program.entry)) stmt.now) }
-{
-    let mut statements = Vec::new(alloc);
-    push_stmt(variables_in(program), stmt, &mut statements)
-}

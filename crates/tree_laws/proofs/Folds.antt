@@ -14,8 +14,10 @@ use Rattle.pascal_tree.specs.declared.decl.Block.TheFolds.{map-Block, map-Routin
 
 -- ---- one map after another
 
-module _ {K A S L B T M C U : Type 0} (kind : K → L) (arm : A → B) (stmt : S → T) (kind' : L → M) (arm' : B → C) (stmt' : T → U) where
-  map-kind : (y : StmtKind-F K A S) → map-StmtKind L B T M C U kind' arm' stmt' (map-StmtKind K A S L B T kind arm stmt y)
+module _ {K A S L B T M C U : Type 0} (kind : K → L) (arm : A → B) (stmt : S → T) (kind' : L → M) (arm' : B → C)
+    (stmt' : T → U) where
+  map-kind : (y : StmtKind-F K A S) → map-StmtKind L B T M C U kind' arm' stmt'
+      (map-StmtKind K A S L B T kind arm stmt y)
       ≡ map-StmtKind K A S M C U (λ k. kind' (kind k)) (λ a. arm' (arm a)) (λ s. stmt' (stmt s)) y
   map-kind StmtKind-F.Empty = refl
   map-kind (StmtKind-F.Assign a e) = refl
@@ -108,25 +110,30 @@ module _ {K A S L B T : Type 0}
 
   module _ (agree : Agree) where
     kind-agrees : (x : StmtKind-F StmtKind Arm Stmt) (y : StmtKind-F KindSuch ArmSuch StmtSuch)
-        → map-StmtKind KindSuch ArmSuch StmtSuch StmtKind Arm Stmt (λ e. e.0) (λ e. e.0) (λ e. e.0) y ≡ x → KindAgrees (roll-StmtKind x)
+        → map-StmtKind KindSuch ArmSuch StmtSuch StmtKind Arm Stmt (λ e. e.0) (λ e. e.0) (λ e. e.0) y ≡ x
+        → KindAgrees (roll-StmtKind x)
     kind-agrees x y is =
         subst (λ z. KindAgrees (roll-StmtKind z)) is
         (moved OfKinds
-        (fold-roll-StmtKind K A S kind arm stmt _ ∙ ap kind (map-kind (λ e. e.0) (λ e. e.0) (λ e. e.0) first_kind first_arm first_stmt y
+        (fold-roll-StmtKind K A S kind arm stmt _
+        ∙ ap kind (map-kind (λ e. e.0) (λ e. e.0) (λ e. e.0) first_kind first_arm first_stmt y
         ∙ sym (map-kind kind_both arm_both stmt_both (λ e. e.0) (λ e. e.0) (λ e. e.0) y)))
-        (fold-roll-StmtKind L B T kind' arm' stmt' _ ∙ ap kind' (map-kind (λ e. e.0) (λ e. e.0) (λ e. e.0) other_kind other_arm other_stmt y
+        (fold-roll-StmtKind L B T kind' arm' stmt' _
+        ∙ ap kind' (map-kind (λ e. e.0) (λ e. e.0) (λ e. e.0) other_kind other_arm other_stmt y
         ∙ sym (map-kind kind_both arm_both stmt_both (λ e. e.1) (λ e. e.1) (λ e. e.1) y)))
         (agree.kinds (map-StmtKind KindSuch ArmSuch StmtSuch Kinds Arms Stmts kind_both arm_both stmt_both y)))
 
     arm-agrees : (x : Arm-F StmtKind Arm Stmt) (y : Arm-F KindSuch ArmSuch StmtSuch)
-        → map-Arm KindSuch ArmSuch StmtSuch StmtKind Arm Stmt (λ e. e.0) (λ e. e.0) (λ e. e.0) y ≡ x → ArmAgrees (roll-Arm x)
+        → map-Arm KindSuch ArmSuch StmtSuch StmtKind Arm Stmt (λ e. e.0) (λ e. e.0) (λ e. e.0) y ≡ x
+        → ArmAgrees (roll-Arm x)
     arm-agrees x y is =
         subst (λ z. ArmAgrees (roll-Arm z)) is
         (moved OfArms (fold-roll-Arm K A S kind arm stmt _) (fold-roll-Arm L B T kind' arm' stmt' _)
         (agree.arms (map-Arm KindSuch ArmSuch StmtSuch Kinds Arms Stmts kind_both arm_both stmt_both y)))
 
     stmt-agrees : (x : Stmt-F StmtKind Arm Stmt) (y : Stmt-F KindSuch ArmSuch StmtSuch)
-        → map-Stmt KindSuch ArmSuch StmtSuch StmtKind Arm Stmt (λ e. e.0) (λ e. e.0) (λ e. e.0) y ≡ x → StmtAgrees (roll-Stmt x)
+        → map-Stmt KindSuch ArmSuch StmtSuch StmtKind Arm Stmt (λ e. e.0) (λ e. e.0) (λ e. e.0) y ≡ x
+        → StmtAgrees (roll-Stmt x)
     stmt-agrees x y is =
         subst (λ z. StmtAgrees (roll-Stmt z)) is
         (moved OfStmts (fold-roll-Stmt K A S kind arm stmt _) (fold-roll-Stmt L B T kind' arm' stmt' _)
@@ -148,7 +155,8 @@ module _ {A R B S C T : Type 0} (block : A → B) (routine : R → S) (block' : 
   map-block : (y : Block-F A R) → map-Block B S C T block' routine' (map-Block A R B S block routine y)
       ≡ map-Block A R C T (λ b. block' (block b)) (λ r. routine' (routine r)) y
   map-block y =
-      ap (λ (rs : List T). with_routines y.labels y.consts y.types y.vars rs y.body) (map-map routine' routine y.routines)
+      ap (λ (rs : List T). with_routines y.labels y.consts y.types y.vars rs y.body)
+      (map-map routine' routine y.routines)
 
   routine-map : (name : Name) (heading : Heading) (block_of : Option A)
       → map-Routine B S C T block' routine' (map-Routine A R B S block routine (routine_with name heading block_of))
@@ -171,9 +179,11 @@ module _ {A R B S : Type 0}
 
   pub record AgreeOnBlocks : Type 0 where
     pub blocks : (y : Block-F Blocks Routines)
-        → OfBlocks (block (map-Block Blocks Routines A R (λ e. e.0) (λ e. e.0) y)) (block' (map-Block Blocks Routines B S (λ e. e.1) (λ e. e.1) y))
+        → OfBlocks (block (map-Block Blocks Routines A R (λ e. e.0) (λ e. e.0) y))
+        (block' (map-Block Blocks Routines B S (λ e. e.1) (λ e. e.1) y))
     pub routines : (y : Routine-F Blocks Routines)
-        → OfRoutines (routine (map-Routine Blocks Routines A R (λ e. e.0) (λ e. e.0) y)) (routine' (map-Routine Blocks Routines B S (λ e. e.1) (λ e. e.1) y))
+        → OfRoutines (routine (map-Routine Blocks Routines A R (λ e. e.0) (λ e. e.0) y))
+        (routine' (map-Routine Blocks Routines B S (λ e. e.1) (λ e. e.1) y))
 
   abbrev first_block : Block → A
   first_block = fold-Block A R block routine
@@ -212,9 +222,13 @@ module _ {A R B S : Type 0}
         subst (λ z. BlockAgrees (roll-Block z)) is
         (moved OfBlocks
         (fold-roll-Block A R block routine _
-        ∙ ap block (map-block (λ e. e.0) (λ e. e.0) first_block first_routine y ∙ sym (map-block block_both routine_both (λ e. e.0) (λ e. e.0) y)))
+        ∙ ap block
+        (map-block (λ e. e.0) (λ e. e.0) first_block first_routine y
+        ∙ sym (map-block block_both routine_both (λ e. e.0) (λ e. e.0) y)))
         (fold-roll-Block B S block' routine' _
-        ∙ ap block' (map-block (λ e. e.0) (λ e. e.0) other_block other_routine y ∙ sym (map-block block_both routine_both (λ e. e.1) (λ e. e.1) y)))
+        ∙ ap block'
+        (map-block (λ e. e.0) (λ e. e.0) other_block other_routine y
+        ∙ sym (map-block block_both routine_both (λ e. e.1) (λ e. e.1) y)))
         (agree.blocks (map-Block BlockSuch RoutineSuch Blocks Routines block_both routine_both y)))
 
     routine-agrees : (x : Routine-F Block Routine) (y : Routine-F BlockSuch RoutineSuch)
@@ -223,9 +237,13 @@ module _ {A R B S : Type 0}
         subst (λ z. RoutineAgrees (roll-Routine z)) is
         (moved OfRoutines
         (fold-roll-Routine A R block routine _
-        ∙ ap routine (map-routine (λ e. e.0) (λ e. e.0) first_block first_routine y ∙ sym (map-routine block_both routine_both (λ e. e.0) (λ e. e.0) y)))
+        ∙ ap routine
+        (map-routine (λ e. e.0) (λ e. e.0) first_block first_routine y
+        ∙ sym (map-routine block_both routine_both (λ e. e.0) (λ e. e.0) y)))
         (fold-roll-Routine B S block' routine' _
-        ∙ ap routine' (map-routine (λ e. e.0) (λ e. e.0) other_block other_routine y ∙ sym (map-routine block_both routine_both (λ e. e.1) (λ e. e.1) y)))
+        ∙ ap routine'
+        (map-routine (λ e. e.0) (λ e. e.0) other_block other_routine y
+        ∙ sym (map-routine block_both routine_both (λ e. e.1) (λ e. e.1) y)))
         (agree.routines (map-Routine BlockSuch RoutineSuch Blocks Routines block_both routine_both y)))
 
     pub agreed_block : (b : Block) → OfBlocks (fold-Block A R block routine b) (fold-Block B S block' routine' b)

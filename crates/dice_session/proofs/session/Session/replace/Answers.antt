@@ -1,12 +1,16 @@
-use Rattle.std.proofs.Common.{refl}
-use Rattle.dice_session.specs.Reading.{NoStatement, OneStatement}
-use Rattle.dice_session.proofs.Sessions.{on_ok, puts-obeyed}
+use Rattle.std.proofs.Common.{Ok, Err, refl, subst}
+use Rattle.dice_session.specs.World.{into_draft}
+use Rattle.dice_session.specs.SessionOf.{Became}
+use Rattle.dice_session.proofs.Sessions.{on_ok, on_ok_both, puts-obeyed}
 use Rattle.dice_session.proofs.session.Session.replace.Goals as goal
 
-pub returns-in-None : goal.returns-in-None
-returns-in-None c = on_ok c.refuse.result c.refuse.ensures (λ told w machine lives.
-    puts-obeyed w c.args.name c.args.text.now _ _ NoStatement machine _ machine (rw c.in-None.is at c.in_ok-read_statement.ensures) (record { told = told; of_world = lives; kept = λ e. refl }))
+pub returns-in-Ok : goal.returns-in-Ok
+returns-in-Ok c = on_ok c.edit.result c.edit.ensures (λ f w machine lives.
+    puts-obeyed w c.args.name c.args.text.now _ _ (Ok c.in-Ok.stmt) machine _ machine
+    (record { of_text = tt; says = c.in-Ok.ensures })
+    (subst (λ s. Became (into_draft w c.args.name s) c.args.out.now c.edit.new.out machine c.edit.new.self machine) c.get.ensures (f w machine lives)))
 
-pub returns-in-Some : goal.returns-in-Some
-returns-in-Some c = on_ok c.put.result c.put.ensures (λ f w machine lives.
-    puts-obeyed w c.args.name c.args.text.now _ _ (OneStatement c.in-Some.stmt) machine _ machine (rw c.in-Some.is at c.in_ok-read_statement.ensures) (f w machine lives))
+pub returns-in-Err : goal.returns-in-Err
+returns-in-Err c = on_ok_both c.refuse_text.result c.refuse_text.ensures.value c.refuse_text.ensures.told (λ value told w machine lives.
+    puts-obeyed w c.args.name c.args.text.now _ _ (Err c.in-Err.fault) machine _ machine
+    (record { of_text = told; says = c.in-Err.ensures }) (record { told = value; of_world = lives; kept = λ e. refl }))

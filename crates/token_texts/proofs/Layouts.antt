@@ -15,9 +15,9 @@ use Rattle.pascal_print.specs.declared.event.Event.TheVariants.{Item, Part, Back
 use Rattle.pascal_print.specs.declared.event.Line.{Line}
 use Rattle.pascal_print.specs.Events.{Laid, tokens_of, in_kind, in_arm, in_stmt, stmt_events, kind_events, arm_events, program_events, program_tokens, statement_tokens}
 use Rattle.pascal_print.specs.Listing.{closes, begins, on_line, rest_of, listing_lines, blanks, spellings_after_blanks, spellings_of, plain_line, text_of_lines, listing, statement_listing}
-use Rattle.own_tokens.proofs.Written.{all-left, all-right}
-use Rattle.listing_laws.proofs.Gaps.{OpensGap, Spaced, nothing, gap, puts}
-use Rattle.listing_laws.proofs.Spellings.{IsSpelt}
+use Rattle.dice_base.proofs.Appended.{all-left, all-right}
+use Rattle.token_texts.proofs.Gaps.{OpensGap, Spaced, nothing, gap, puts}
+use Rattle.token_texts.proofs.Spellings.{IsSpelt}
 
 abbrev AreSpelt : Toks → Type 0
 AreSpelt ts = AllByRecursion IsSpelt ts
@@ -32,26 +32,35 @@ behind-opens : (ts : Toks) (text : List ℕ) → OpensGap (spellings_after_blank
 behind-opens [] text = refl
 behind-opens (t ∷ ts) text = refl
 
-behind-spaced : (ts : Toks) (text : List ℕ) (us : Toks) → AreSpelt ts → Spaced text us → Spaced (spellings_after_blanks ts ++ 10 ∷ text) (ts ++ us)
+behind-spaced : (ts : Toks) (text : List ℕ) (us : Toks) → AreSpelt ts → Spaced text us
+    → Spaced (spellings_after_blanks ts ++ 10 ∷ text) (ts ++ us)
 behind-spaced [] text us each s = gap 10 text us refl s
 behind-spaced (t ∷ ts) text us each s =
-    subst (λ (v : List ℕ). Spaced (32 ∷ v) (t ∷ (ts ++ us))) (sym (append_assoc (spelling_of t) (spellings_after_blanks ts) (10 ∷ text)))
+    subst (λ (v : List ℕ). Spaced (32 ∷ v) (t ∷ (ts ++ us)))
+    (sym (append_assoc (spelling_of t) (spellings_after_blanks ts) (10 ∷ text)))
     (gap 32 (spelling_of t ++ (spellings_after_blanks ts ++ 10 ∷ text)) (t ∷ (ts ++ us)) refl
-    (puts (spelling_of t) (spellings_after_blanks ts ++ 10 ∷ text) t (ts ++ us) each.0 (behind-opens ts text) (behind-spaced ts text us each.1 s)))
+    (puts (spelling_of t) (spellings_after_blanks ts ++ 10 ∷ text) t (ts ++ us) each.0 (behind-opens ts text)
+    (behind-spaced ts text us each.1 s)))
 
-spelled-spaced : (t : TokenKind) (ts : Toks) (text : List ℕ) (us : Toks) → AreSpelt (t ∷ ts) → Spaced text us → Spaced (spellings_of (t ∷ ts) ++ 10 ∷ text) (t ∷ (ts ++ us))
+spelled-spaced : (t : TokenKind) (ts : Toks) (text : List ℕ) (us : Toks) → AreSpelt (t ∷ ts) → Spaced text us
+    → Spaced (spellings_of (t ∷ ts) ++ 10 ∷ text) (t ∷ (ts ++ us))
 spelled-spaced t ts text us each s =
-    subst (λ (v : List ℕ). Spaced v (t ∷ (ts ++ us))) (sym (append_assoc (spelling_of t) (spellings_after_blanks ts) (10 ∷ text)))
-    (puts (spelling_of t) (spellings_after_blanks ts ++ 10 ∷ text) t (ts ++ us) each.0 (behind-opens ts text) (behind-spaced ts text us each.1 s))
+    subst (λ (v : List ℕ). Spaced v (t ∷ (ts ++ us)))
+    (sym (append_assoc (spelling_of t) (spellings_after_blanks ts) (10 ∷ text)))
+    (puts (spelling_of t) (spellings_after_blanks ts ++ 10 ∷ text) t (ts ++ us) each.0 (behind-opens ts text)
+    (behind-spaced ts text us each.1 s))
 
 line-parts : (a b text : List ℕ) → ((a ++ b) ++ 10 ∷ []) ++ text ≡ a ++ (b ++ 10 ∷ text)
 line-parts a b text = append_assoc (a ++ b) (10 ∷ []) text ∙ append_assoc a b (10 ∷ text)
 
-line-spaced : (level : ℕ) (ts : Toks) (text : List ℕ) (us : Toks) → AreSpelt ts → Spaced text us → Spaced (plain_line level ts ++ text) (ts ++ us)
+line-spaced : (level : ℕ) (ts : Toks) (text : List ℕ) (us : Toks) → AreSpelt ts → Spaced text us
+    → Spaced (plain_line level ts ++ text) (ts ++ us)
 line-spaced level [] text us each s = s
 line-spaced level (t ∷ ts) text us each s =
-    subst (λ (v : List ℕ). Spaced v (t ∷ (ts ++ us))) (sym (line-parts (blanks (2 * level)) (spellings_of (t ∷ ts)) text))
-    (blanks-spaced (2 * level) (spellings_of (t ∷ ts) ++ 10 ∷ text) (t ∷ (ts ++ us)) (spelled-spaced t ts text us each s))
+    subst (λ (v : List ℕ). Spaced v (t ∷ (ts ++ us)))
+    (sym (line-parts (blanks (2 * level)) (spellings_of (t ∷ ts)) text))
+    (blanks-spaced (2 * level) (spellings_of (t ∷ ts) ++ 10 ∷ text) (t ∷ (ts ++ us))
+    (spelled-spaced t ts text us each s))
 
 -- ---- all lines
 
@@ -62,7 +71,8 @@ tokens_in (line ∷ lines) = line.tokens ++ tokens_in lines
 lines-spaced : (lines : List Line) → AreSpelt (tokens_in lines) → Spaced (text_of_lines false lines) (tokens_in lines)
 lines-spaced [] each = nothing
 lines-spaced (line ∷ lines) each =
-    line-spaced line.level line.tokens (text_of_lines false lines) (tokens_in lines) (all-left IsSpelt line.tokens (tokens_in lines) each)
+    line-spaced line.level line.tokens (text_of_lines false lines) (tokens_in lines)
+    (all-left IsSpelt line.tokens (tokens_in lines) each)
     (lines-spaced lines (all-right IsSpelt line.tokens (tokens_in lines) each))
 
 abbrev goes_on : TokenKind → List Event → ℕ → Bool → Toks × List Line
@@ -76,7 +86,8 @@ rest-tokens (Part level ∷ es) back = rest-tokens es None
 rest-tokens (Back level ∷ es) back = rest-tokens es (Some level)
 rest-tokens (Token t ∷ es) None = ap (λ (ts : Toks). t ∷ ts) (rest-tokens es None)
 rest-tokens (Token t ∷ es) (Some level) = go (closes t) (rest-tokens es None) (rest-tokens es (Some level)) where
-  go : (b : Bool) → (rest_of es None).0 ++ tokens_in (rest_of es None).1 ≡ tokens_of es → (rest_of es (Some level)).0 ++ tokens_in (rest_of es (Some level)).1 ≡ tokens_of es
+  go : (b : Bool) → (rest_of es None).0 ++ tokens_in (rest_of es None).1 ≡ tokens_of es
+      → (rest_of es (Some level)).0 ++ tokens_in (rest_of es (Some level)).1 ≡ tokens_of es
       → (goes_on t es level b).0 ++ tokens_in (goes_on t es level b).1 ≡ t ∷ tokens_of es
   go true fresh known = ap (λ (ts : Toks). t ∷ ts) known
   go false fresh known = ap (λ (ts : Toks). t ∷ ts) fresh
@@ -85,20 +96,27 @@ pub lines-tokens : (p : Tree) → tokens_in (listing_lines (program_events p)) �
 lines-tokens p = rest-tokens (program_events p) None
 
 -- where each token is read again as it is spelt
-pub listing-spaced : (p : Tree) → AllByRecursion IsSpelt (program_tokens p) → Spaced (listing false p) (program_tokens p)
+pub listing-spaced : (p : Tree) → AllByRecursion IsSpelt (program_tokens p) → Spaced (listing false p)
+    (program_tokens p)
 listing-spaced p each =
     subst (λ (ts : Toks). Spaced (listing false p) ts) (lines-tokens p)
-    (lines-spaced (listing_lines (program_events p)) (subst (λ (ts : Toks). AllByRecursion IsSpelt ts) (sym (lines-tokens p)) each))
+    (lines-spaced (listing_lines (program_events p))
+    (subst (λ (ts : Toks). AllByRecursion IsSpelt ts) (sym (lines-tokens p)) each))
 
 -- ---- the same of a statement
 
 statement-tokens : (x : Stmt) → tokens_in (listing_lines (stmt_events x 0)) ≡ statement_tokens x
 unfolding stmt_events kind_events arm_events
 statement-tokens x =
-    subst (λ (f : Laid). tokens_in (listing_lines (f 0)) ≡ tokens_of (f 0)) (sym (fold_out-Stmt Laid Laid Laid in_kind in_arm in_stmt x))
-    (rest-tokens (in_stmt (map-Stmt StmtKind Arm Stmt Laid Laid Laid kind_events arm_events stmt_events (out-Stmt x)) 0) None)
+    subst (λ (f : Laid). tokens_in (listing_lines (f 0)) ≡ tokens_of (f 0))
+    (sym (fold_out-Stmt Laid Laid Laid in_kind in_arm in_stmt x))
+    (rest-tokens
+    (in_stmt (map-Stmt StmtKind Arm Stmt Laid Laid Laid kind_events arm_events stmt_events
+    (out-Stmt x)) 0) None)
 
-pub statement-spaced : (x : Stmt) → AllByRecursion IsSpelt (statement_tokens x) → Spaced (statement_listing x) (statement_tokens x)
+pub statement-spaced : (x : Stmt) → AllByRecursion IsSpelt (statement_tokens x) → Spaced (statement_listing x)
+    (statement_tokens x)
 statement-spaced x each =
     subst (λ (ts : Toks). Spaced (statement_listing x) ts) (statement-tokens x)
-    (lines-spaced (listing_lines (stmt_events x 0)) (subst (λ (ts : Toks). AllByRecursion IsSpelt ts) (sym (statement-tokens x)) each))
+    (lines-spaced (listing_lines (stmt_events x 0))
+    (subst (λ (ts : Toks). AllByRecursion IsSpelt ts) (sym (statement-tokens x)) each))

@@ -4,7 +4,7 @@ use Rattle.pascal_semantics.specs.Charge.{program_charge, charges_of}
 use Rattle.dice_session.specs.World.{loaded_line, machine_reply, with_program}
 use Rattle.dice_session.proofs.Sessions.{full-became, on_ok}
 use Rattle.dice_session.proofs.Drafts.{loaded-became}
-use Rattle.dice_session.proofs.session.Session.load.Goals as goal
+use Rattle.dice_session.proofs.session.Session.load_statements.Goals as goal
 
 pub returns-then-words-gt-MAX_PROGRAM_WORDS : goal.returns-then-words-gt-MAX_PROGRAM_WORDS
 returns-then-words-gt-MAX_PROGRAM_WORDS c = on_ok c.push_full.result c.push_full.ensures (λ told w lives mode.

@@ -48,7 +48,8 @@ digits-solid (c ∷ w) each = rw (digit-solid (class c) each.0) (digits-solid w 
 
 -- a token is a string, or no separator stands in it
 pub data IsSolid (w : List ℕ) : Type 0 where
-  quoted : (cs : List ℕ) → AllByRecursion (λ b. string_byte b ≡ true) cs → w ≡ 39 ∷ doubled_apostrophes cs ++ 39 ∷ [] → IsSolid w
+  quoted : (cs : List ℕ) → AllByRecursion (λ b. string_byte b ≡ true) cs → w ≡ 39 ∷ doubled_apostrophes cs ++ 39
+      ∷ [] → IsSolid w
   solid_all : all_solid w ≡ true → IsSolid w
 
 alternative-solid : (w : List ℕ) (k : ℕ) → alternative_of w ≡ some k → all_solid w ≡ true
@@ -71,10 +72,12 @@ lexeme-plain : (w : List ℕ) (t : TokenKind) → Lexeme w t → opens_comment w
 unfolding sign_of
 lexeme-plain w t (word c cs is each) = no_comment c cs Letter is (λ bad. absurd cc)
 lexeme-plain w t (number c cs is each low) = no_comment c cs Digit is (λ bad. absurd cc)
-lexeme-plain w t (sign v k e) = negated (opens_comment w) (found_passes (λ s. not (opens_comment s)) w 0 (map (λ s. s.now) SIGNS) k e refl) where
-  negated : (b : Bool) → not b ≡ true → b ≡ false
-  negated true e = absurd cc
-  negated false e = refl
+lexeme-plain w t (sign v k e) =
+    negated (opens_comment w)
+    (found_passes (λ s. not (opens_comment s)) w 0 (map (λ s. s.now) SIGNS) k e refl) where
+      negated : (b : Bool) → not b ≡ true → b ≡ false
+      negated true e = absurd cc
+      negated false e = refl
 lexeme-plain w t (string cs some each) = string_plain (doubled_apostrophes cs ++ 39 ∷ [])
 lexeme-plain w t (alternative v k e) = alternative-plain w k e
 lexeme-plain w t hole = refl
@@ -116,17 +119,21 @@ gap-quote (d ∷ rest) gap = go (d == 39) refl where
   go false e = refl
 
 -- nor does a longer token begin where one stands in front of a separator
-no_longer : (w v rest r : List ℕ) (t u : TokenKind) → Lexeme w t → Lexeme v u → OpensGap rest → w ++ rest ≡ v ++ r → length v ≤ length w
+no_longer : (w v rest r : List ℕ) (t u : TokenKind) → Lexeme w t → Lexeme v u → OpensGap rest
+    → w ++ rest ≡ v ++ r → length v ≤ length w
 no_longer w v rest r t u l m gap e = go (lexeme-solid v u m) where
   go : IsSolid v → length v ≤ length w
   go (solid_all s) = within w v rest r gap e s
   go (quoted cs each is) =
       -- then the first token is a string too
-      let f = lexeme_front 39 (doubled_apostrophes cs ++ 39 ∷ r) w rest t (sym (e ∙ ap (λ (x : List ℕ). x ++ r) is ∙ ap (λ (x : List ℕ). 39 ∷ x) (append_assoc (doubled_apostrophes cs) (39 ∷ []) r))) l in
+      let f = lexeme_front 39 (doubled_apostrophes cs ++ 39 ∷ r) w rest t
+      (sym (e ∙ ap (λ (x : List ℕ). x ++ r) is ∙ ap (λ (x : List ℕ). 39 ∷ x)
+      (append_assoc (doubled_apostrophes cs) (39 ∷ []) r))) l in
       let s = string_lexeme f.0 t f.3 in
       let first : w ≡ 39 ∷ doubled_apostrophes s.characters ++ 39 ∷ [] = f.1 ∙ ap (λ (x : List ℕ). 39 ∷ x) s.parts in
       let whole : 39 ∷ (doubled_apostrophes s.characters ++ 39 ∷ rest) ≡ v ++ r =
-      sym (ap (λ (x : List ℕ). x ++ rest) first ∙ ap (λ (x : List ℕ). 39 ∷ x) (append_assoc (doubled_apostrophes s.characters) (39 ∷ []) rest)) ∙ e in
+      sym (ap (λ (x : List ℕ). x ++ rest) first ∙ ap (λ (x : List ℕ). 39 ∷ x)
+      (append_assoc (doubled_apostrophes s.characters) (39 ∷ []) rest)) ∙ e in
       rw first (string_longest s.characters rest v r u s.each (gap-quote rest gap) whole m)
 
 gap-star : (d : ℕ) → class d ≡ Separator → (d == 42) ≡ false
@@ -139,7 +146,8 @@ and-false : (a b : Bool) → b ≡ false → (a && b) ≡ false
 and-false true b e = e
 and-false false b e = refl
 
-plain-behind : (w rest : List ℕ) → 0 < length w → opens_comment w ≡ false → OpensGap rest → opens_comment (w ++ rest) ≡ false
+plain-behind : (w rest : List ℕ) → 0 < length w → opens_comment w ≡ false → OpensGap rest
+    → opens_comment (w ++ rest) ≡ false
 plain-behind [] rest some plain gap = absurd (omega (arith, some))
 plain-behind (c ∷ []) [] some plain gap = plain
 plain-behind (c ∷ []) (d ∷ rest) some plain gap = rw (plain, gap-star d gap) (and-false (c == 40) false refl)
@@ -171,7 +179,8 @@ gap_takes w rest t l gap = record {
 pub data Spaced : List ℕ → List TokenKind → Type 0 where
   nothing : Spaced [] []
   gap : (c : ℕ) (text : List ℕ) (ts : List TokenKind) → class c ≡ Separator → Spaced text ts → Spaced (c ∷ text) ts
-  puts : (w text : List ℕ) (t : TokenKind) (ts : List TokenKind) → Lexeme w t → OpensGap text → Spaced text ts → Spaced (w ++ text) (t ∷ ts)
+  puts : (w text : List ℕ) (t : TokenKind) (ts : List TokenKind) → Lexeme w t → OpensGap text → Spaced text ts
+      → Spaced (w ++ text) (t ∷ ts)
 
 -- such a text is these tokens
 pub spaced-lexes : (text : List ℕ) (ts : List TokenKind) → Spaced text ts → LexesTo [] text ts
@@ -180,9 +189,11 @@ spaced-lexes text ts (gap c more us is s) = skips (blank c more is) (spaced-lexe
 spaced-lexes text ts (puts w more t us l o s) = takes (gap_takes w more t l o) (spaced-lexes more us s)
 
 -- and so are two such texts with a separator between, or nothing behind
-pub spaced-append : (v text : List ℕ) (ts us : List TokenKind) → OpensGap text → Spaced v ts → Spaced text us → Spaced (v ++ text) (ts ++ us)
+pub spaced-append : (v text : List ℕ) (ts us : List TokenKind) → OpensGap text → Spaced v ts → Spaced text us
+    → Spaced (v ++ text) (ts ++ us)
 spaced-append v text ts us o nothing t = t
-spaced-append v text ts us o (gap c more vs is s) t = gap c (more ++ text) (vs ++ us) is (spaced-append more text vs us o s t)
+spaced-append v text ts us o (gap c more vs is s) t =
+    gap c (more ++ text) (vs ++ us) is (spaced-append more text vs us o s t)
 spaced-append v text ts us o (puts w more x vs l p s) t =
     subst (λ (u : List ℕ). Spaced u (x ∷ (vs ++ us))) (sym (append_assoc w more text))
     (puts w (more ++ text) x (vs ++ us) l (opens-append more text p o) (spaced-append more text vs us o s t))
