@@ -1,5 +1,5 @@
 -- Whether a block and a routine are formed and how many levels they take, by the same of their parts.
-use Rattle.std.specs.Prelude.{ℕ, Bool, ◌&&◌}
+use Rattle.std.specs.Prelude.{◌≡◌, ℕ, Bool, ◌&&◌}
 use Rattle.pascal_tree.specs.declared.decl.Block.{Block, Block-F, roll-Block, map-Block}
 use Rattle.pascal_tree.specs.declared.decl.Routine.{Routine, Routine-F, roll-Routine, map-Routine}
 use Rattle.pascal_tree.specs.declared.decl.Block.TheFolds.{fold-roll-Block, fold-roll-Routine}
@@ -35,11 +35,23 @@ block_whole x =
 abbrev pub block_levels : BlockLayer → ℕ
 block_levels x = depth_of_block (map-Block Block Routine ℕ ℕ block_depth routine_depth x)
 
+pub block-formed : (x : BlockLayer) → block_is_formed (roll-Block x) ≡ formed_block (map-Block Block Routine Bool Bool block_is_formed routine_is_formed x)
+unfolding block_is_formed routine_is_formed
+block-formed x = fold-roll-Block Bool Bool formed_block formed_routine x
+
+pub routine-formed : (x : RoutineLayer) → routine_is_formed (roll-Routine x) ≡ formed_routine (map-Routine Block Routine Bool Bool block_is_formed routine_is_formed x)
+unfolding block_is_formed routine_is_formed
+routine-formed x = fold-roll-Routine Bool Bool formed_block formed_routine x
+
+pub block-depth : (x : BlockLayer) → block_depth (roll-Block x) ≡ block_levels x
+unfolding block_depth routine_depth
+block-depth x = fold-roll-Block ℕ ℕ depth_of_block depth_of_routine x
+
 pub block_layer : Layer block_is_whole block_depth roll-Block block_whole block_levels
-unfolding block_is_formed routine_is_formed block_is_paired routine_is_paired block_depth routine_depth
+unfolding block_is_paired routine_is_paired
 block_layer = record {
-  formed_is = λ x. both (fold-roll-Block Bool Bool formed_block formed_routine x) (fold-roll-Block Bool Bool paired_of_block paired_of_routine x);
-  depth_is = λ x. fold-roll-Block ℕ ℕ depth_of_block depth_of_routine x;
+  formed_is = λ x. both (block-formed x) (fold-roll-Block Bool Bool paired_of_block paired_of_routine x);
+  depth_is = block-depth;
 }
 
 abbrev pub routine_whole : RoutineLayer → Bool
@@ -50,9 +62,13 @@ routine_whole x =
 abbrev pub routine_levels : RoutineLayer → ℕ
 routine_levels x = depth_of_routine (map-Routine Block Routine ℕ ℕ block_depth routine_depth x)
 
+pub routine-depth : (x : RoutineLayer) → routine_depth (roll-Routine x) ≡ routine_levels x
+unfolding block_depth routine_depth
+routine-depth x = fold-roll-Routine ℕ ℕ depth_of_block depth_of_routine x
+
 pub routine_layer : Layer routine_is_whole routine_depth roll-Routine routine_whole routine_levels
-unfolding block_is_formed routine_is_formed block_is_paired routine_is_paired block_depth routine_depth
+unfolding block_is_paired routine_is_paired
 routine_layer = record {
-  formed_is = λ x. both (fold-roll-Routine Bool Bool formed_block formed_routine x) (fold-roll-Routine Bool Bool paired_of_block paired_of_routine x);
-  depth_is = λ x. fold-roll-Routine ℕ ℕ depth_of_block depth_of_routine x;
+  formed_is = λ x. both (routine-formed x) (fold-roll-Routine Bool Bool paired_of_block paired_of_routine x);
+  depth_is = routine-depth;
 }

@@ -71,25 +71,46 @@ pub stmt-ending : (x : StmtLayer) → stmt_ending (roll-Stmt x) ≡ kind_ending 
 unfolding kind_ending arm_ending stmt_ending
 stmt-ending x = fold-roll-Stmt Ending Ending Ending ending_of_kind ending_of_arm ending_of_stmt x
 
+pub kind-formed : (x : KindLayer) → kind_is_formed (roll-StmtKind x) ≡ kind_formed x
+unfolding kind_is_formed arm_is_formed stmt_is_formed
+kind-formed x = fold-roll-StmtKind Bool Bool Bool formed_kind formed_arm formed_stmt x
+
+pub arm-formed : (x : ArmLayer) → arm_is_formed (roll-Arm x) ≡ arm_formed x
+unfolding kind_is_formed arm_is_formed stmt_is_formed
+arm-formed x = fold-roll-Arm Bool Bool Bool formed_kind formed_arm formed_stmt x
+
+pub stmt-formed : (x : StmtLayer) → stmt_is_formed (roll-Stmt x) ≡ stmt_formed x
+unfolding kind_is_formed arm_is_formed stmt_is_formed
+stmt-formed x = fold-roll-Stmt Bool Bool Bool formed_kind formed_arm formed_stmt x
+
+pub kind-depth : (x : KindLayer) → kind_depth (roll-StmtKind x) ≡ kind_levels x
+unfolding kind_depth arm_depth stmt_depth
+kind-depth x = fold-roll-StmtKind ℕ ℕ ℕ depth_of_kind depth_of_arm depth_of_stmt x
+
+pub arm-depth : (x : ArmLayer) → arm_depth (roll-Arm x) ≡ stmt_depth x.body
+unfolding kind_depth arm_depth stmt_depth
+arm-depth x = fold-roll-Arm ℕ ℕ ℕ depth_of_kind depth_of_arm depth_of_stmt x
+
+pub stmt-depth : (x : StmtLayer) → stmt_depth (roll-Stmt x) ≡ kind_depth x.kind
+unfolding kind_depth arm_depth stmt_depth
+stmt-depth x = fold-roll-Stmt ℕ ℕ ℕ depth_of_kind depth_of_arm depth_of_stmt x
+
 pub kind_layer : Layer kind_is_whole kind_depth roll-StmtKind (λ x. kind_formed x && (kind_ends x).is_paired) kind_levels
-unfolding kind_is_formed arm_is_formed stmt_is_formed kind_depth arm_depth stmt_depth
 kind_layer = record {
-  formed_is = λ x. both (fold-roll-StmtKind Bool Bool Bool formed_kind formed_arm formed_stmt x) (ap (λ (e : Ending). e.is_paired) (kind-ending x));
-  depth_is = λ x. fold-roll-StmtKind ℕ ℕ ℕ depth_of_kind depth_of_arm depth_of_stmt x;
+  formed_is = λ x. both (kind-formed x) (ap (λ (e : Ending). e.is_paired) (kind-ending x));
+  depth_is = kind-depth;
 }
 
 pub arm_layer : Layer arm_is_whole arm_depth roll-Arm (λ x. arm_formed x && (stmt_ending x.body).is_paired) (λ x. stmt_depth x.body)
-unfolding kind_is_formed arm_is_formed stmt_is_formed kind_depth arm_depth stmt_depth
 arm_layer = record {
-  formed_is = λ x. both (fold-roll-Arm Bool Bool Bool formed_kind formed_arm formed_stmt x) (ap (λ (e : Ending). e.is_paired) (arm-ending x));
-  depth_is = λ x. fold-roll-Arm ℕ ℕ ℕ depth_of_kind depth_of_arm depth_of_stmt x;
+  formed_is = λ x. both (arm-formed x) (ap (λ (e : Ending). e.is_paired) (arm-ending x));
+  depth_is = arm-depth;
 }
 
 pub stmt_layer : Layer stmt_is_whole stmt_depth roll-Stmt (λ x. stmt_formed x && (kind_ending x.kind).is_paired) (λ x. kind_depth x.kind)
-unfolding kind_is_formed arm_is_formed stmt_is_formed kind_depth arm_depth stmt_depth
 stmt_layer = record {
-  formed_is = λ x. both (fold-roll-Stmt Bool Bool Bool formed_kind formed_arm formed_stmt x) (ap (λ (e : Ending). e.is_paired) (stmt-ending x));
-  depth_is = λ x. fold-roll-Stmt ℕ ℕ ℕ depth_of_kind depth_of_arm depth_of_stmt x;
+  formed_is = λ x. both (stmt-formed x) (ap (λ (e : Ending). e.is_paired) (stmt-ending x));
+  depth_is = stmt-depth;
 }
 
 -- ---- each of a list is formed, and each is such as the test says, where each is both
