@@ -1,6 +1,7 @@
 pub mod Among
 pub mod Distinct
 pub mod EditedRows
+pub mod Endings
 pub mod Found
 pub mod Items
 pub mod Lists
@@ -8,3 +9,4 @@ pub mod NameSplits
 pub mod NamedAfter
 pub mod NumberedRows
 pub mod RowSplits
+pub mod SameEndings

@@ -1,6 +1,7 @@
 -- One element of a list, changed.
-use Rattle.std.proofs.Common.{◌≡◌, ℕ, zero, suc, ◌+◌, ◌-◌, ◌<◌, List, [], ◌∷◌, ◌++◌, length, map, take, drop, Some, None, refl, ap, ◌∙◌, subst, arith, Bool}
+use Rattle.std.proofs.Common.{◌≡◌, ℕ, zero, suc, ◌+◌, ◌<◌, ◌&&◌, List, [], ◌∷◌, ◌++◌, length, map, take, drop, Some, None, refl, ap, ◌∙◌, subst, arith, Bool, true, false}
 use Rattle.std.specs.Prelude.{slice_get, if◌then◌else◌}
+use Rattle.std.specs.List.{list_all}
 use Rattle.std.proofs.lemmas.Bool.{eq-eqb, ne_eqb}
 use Rattle.tree_edit.specs.Place.{change, change_if}
 
@@ -60,3 +61,25 @@ change_two {A} f zero x y =
     ap (λ (z : A). z ∷ change_if f 0 1 y ∷ []) (change_if_here f 0 0 x refl) ∙ ap (λ (z : A). f x ∷ z ∷ []) (change_if_other f 0 1 y (λ e. omega (arith, e)))
 change_two {A} f (suc i) x y =
     ap (λ (z : A). z ∷ change_if f (suc i) 1 y ∷ []) (change_if_other f (suc i) 0 x (λ e. omega (arith, e))) ∙ ap (λ (zs : List A). x ∷ zs) (change_second f i y)
+
+-- ---- a test of each element
+
+first_out : (q p b a : Bool) → (q && (p && (b && a))) ≡ (p && ((q && b) && a))
+first_out true true b a = refl
+first_out true false b a = refl
+first_out false true b a = refl
+first_out false false b a = refl
+
+list_all-split : {A B : Type 0} (p : B → Bool) (h : A → B) (f : A → A) (i : ℕ) (x : A) (xs : List A) → slice_get xs i ≡ Some x
+    → list_all p (map h (change f i xs)) ≡ (p (h (f x)) && (list_all p (map h (take i xs)) && list_all p (map h (drop (suc i) xs))))
+list_all-split p h f i x [] e = absurd cc
+list_all-split {A} p h f zero x (y ∷ xs) e = (let same : y ≡ x = cc in ap (λ (z : A). p (h (f z)) && list_all p (map h xs)) same)
+list_all-split p h f (suc i) x (y ∷ xs) e =
+    ap (λ (t : Bool). p (h y) && t) (list_all-split p h f i x xs e) ∙ first_out (p (h y)) (p (h (f x))) (list_all p (map h (take i xs))) (list_all p (map h (drop (suc i) xs)))
+
+-- the changed element is looked at first, and then those before and after it
+pub all_but : {A B : Type 0} (p : B → Bool) (h : A → B) (f : A → A) (i : ℕ) (x : A) (xs : List A) → slice_get xs i ≡ Some x
+    → list_all p (map h (change f i xs)) ≡ (p (h (f x)) && (list_all p (map h (take i xs)) && list_all p (map h (drop (i + 1) xs))))
+all_but p h f i x xs e =
+    (let next : suc i ≡ i + 1 = omega arith in
+    subst (λ (n : ℕ). list_all p (map h (change f i xs)) ≡ (p (h (f x)) && (list_all p (map h (take i xs)) && list_all p (map h (drop n xs))))) next (list_all-split p h f i x xs e))

@@ -1,11 +1,11 @@
 -- An edited program has names again.
-use Rattle.std.proofs.Common.{◌≡◌, ℕ, ◌+◌, ◌≤◌, List, [], ◌∷◌, ◌++◌, Some, ◌∙◌, sym, subst, arith, append_assoc, eqb}
+use Rattle.std.proofs.Common.{◌≡◌, ℕ, ◌≤◌, List, [], ◌∷◌, ◌++◌, Some, ◌∙◌, sym, subst, arith, append_assoc, eqb}
 use Rattle.std.specs.List.{AllByRecursion, IsDistinct}
 use Rattle.pascal_tree.specs.declared.stmt.Stmt.{Stmt, out-Stmt}
 use Rattle.pascal_tree.specs.declared.program.Tree.{Tree}
 use Rattle.pascal_tree.specs.Names.{Counts, names_within, stmt_names, program_names}
 use Rattle.program_tree.specs.Named.{IsNamed, IsNameBelow}
-use Rattle.pascal_tree.specs.Paths.{OfProgram, OfStmt, tree_at}
+use Rattle.pascal_tree.specs.Paths.{OfStmt, tree_at}
 use Rattle.tree_edit.specs.Edited.{with_stmt}
 use Rattle.tree_edit.proofs.Distinct.{renewed}
 use Rattle.tree_edit.proofs.Among.{Splits}

@@ -1,30 +1,27 @@
 -- Names that are given in turn change nothing else in the rows of a statement.
-use Rattle.std.proofs.Common.{◌≡◌, ℕ, ◌+◌, List, [], ◌∷◌, ◌++◌, Option, Some, None, map, refl, sym, ap, ◌∙◌, subst}
-use Rattle.std.specs.Prelude.{option_to_list}
+use Rattle.std.proofs.Common.{◌≡◌, ℕ, ◌+◌, List, [], ◌∷◌, ◌++◌, Some, None, map, refl, sym, ap, ◌∙◌}
 use Rattle.std.specs.List.{AllByRecursion}
 use Rattle.std.proofs.lemmas.List.{map-append}
-use Rattle.pascal_tree.specs.declared.stmt.Stmt.{Stmt, Stmt-F, out-Stmt, roll-Stmt, out-roll-Stmt}
+use Rattle.pascal_tree.specs.declared.stmt.Stmt.{Stmt, Stmt-F, out-Stmt, out-roll-Stmt}
 use Rattle.pascal_tree.specs.declared.stmt.StmtKind.{StmtKind, StmtKind-F, out-StmtKind}
 use Rattle.pascal_tree.specs.declared.stmt.StmtKind.TheVariants as s
 use Rattle.pascal_tree.specs.declared.stmt.StmtKind.TheFolds.{map-StmtKind, fold_out-StmtKind, fold_out-Arm, fold_out-Stmt}
 use Rattle.pascal_tree.specs.declared.stmt.Arm.{Arm, Arm-F, out-Arm, out-roll-Arm}
-use Rattle.pascal_tree.specs.declared.stmt.Constant.{Constant}
-use Rattle.dice_base.specs.declared.name.Name.{Name}
 use Rattle.pascal_tree.specs.Naming.{Numbering, list_numbering, kind_in_turn, arm_in_turn, stmt_in_turn, stmt_numbering, kind_numbering, arm_numbering}
 use Rattle.pascal_tree.specs.Names.{stmt_renaming}
 use Rattle.pascal_tree.specs.Paths.{ItemValue, OfProgram, OfDecl, OfRoutine, OfStmt, kind_parts, arm_body, stmt_children, item_children}
 use Rattle.dice_base.specs.Tokens.{Toks}
-use Rattle.pascal_tree.specs.Rows.{Row, Rows, arm_text, hole, label_part, own_arm, own_kind, own_stmt, rows_from, stmt_rows}
+use Rattle.pascal_tree.specs.Rows.{Row, arm_text, hole, label_part, own_arm, own_kind, rows_from, stmt_rows}
 use Rattle.program_tree.proofs.Induction.{stmt_has}
 use Rattle.program_tree.proofs.Opened.{stmt_opened}
 use Rattle.tree_edit.specs.Edited.{unnamed_row}
 
 -- ---- the parts of a numbered statement
 
-abbrev layer : StmtKind-F StmtKind Arm Stmt → StmtKind-F (Numbering StmtKind) (Numbering Arm) (Numbering Stmt)
+abbrev pub layer : StmtKind-F StmtKind Arm Stmt → StmtKind-F (Numbering StmtKind) (Numbering Arm) (Numbering Stmt)
 layer = map-StmtKind StmtKind Arm Stmt (Numbering StmtKind) (Numbering Arm) (Numbering Stmt) kind_numbering arm_numbering stmt_numbering
 
-kind_numbering-is : (k : StmtKind) (n : ℕ) → kind_numbering k n ≡ kind_in_turn (layer (out-StmtKind k)) n
+pub kind_numbering-is : (k : StmtKind) (n : ℕ) → kind_numbering k n ≡ kind_in_turn (layer (out-StmtKind k)) n
 unfolding stmt_numbering kind_numbering arm_numbering
 kind_numbering-is k n = ap (λ (f : Numbering StmtKind). f n) (fold_out-StmtKind (Numbering StmtKind) (Numbering Arm) (Numbering Stmt) kind_in_turn arm_in_turn stmt_in_turn k)
 
@@ -35,20 +32,20 @@ arm_numbering-is : (a : Arm) (n : ℕ) → arm_numbering a n ≡ numbered_arm a 
 unfolding stmt_numbering kind_numbering arm_numbering
 arm_numbering-is a n = ap (λ (f : Numbering Arm). f n) (fold_out-Arm (Numbering StmtKind) (Numbering Arm) (Numbering Stmt) kind_in_turn arm_in_turn stmt_in_turn a)
 
-stmt_numbering-is : (x : Stmt) (n : ℕ) → (stmt_numbering x n).0 ≡ (stmt_renaming n x (n + 1)).0
+pub stmt_numbering-is : (x : Stmt) (n : ℕ) → (stmt_numbering x n).0 ≡ (stmt_renaming n x (n + 1)).0
 unfolding stmt_numbering kind_numbering arm_numbering
 stmt_numbering-is x n = ap (λ (f : Numbering Stmt). (f n).0) (fold_out-Stmt (Numbering StmtKind) (Numbering Arm) (Numbering Stmt) kind_in_turn arm_in_turn stmt_in_turn x)
 
-abbrev stmts_in_turn : List Stmt → ℕ → List Stmt
+abbrev pub stmts_in_turn : List Stmt → ℕ → List Stmt
 stmts_in_turn xs n = (list_numbering (map stmt_numbering xs) n).0
 
-abbrev arms_in_turn : List Arm → ℕ → List Arm
+abbrev pub arms_in_turn : List Arm → ℕ → List Arm
 arms_in_turn arms n = (list_numbering (map arm_numbering arms) n).0
 
 abbrev arm_layer : Arm → ℕ → Arm-F StmtKind Arm Stmt
 arm_layer a n = record { constants = (out-Arm a).constants; body = (stmt_numbering (arm_body a) n).0 }
 
-arm_bodies : (arms : List Arm) (n : ℕ) → map arm_body (arms_in_turn arms n) ≡ stmts_in_turn (map arm_body arms) n
+pub arm_bodies : (arms : List Arm) (n : ℕ) → map arm_body (arms_in_turn arms n) ≡ stmts_in_turn (map arm_body arms) n
 arm_bodies [] n = refl
 arm_bodies (a ∷ arms) n =
     rw (arm_numbering-is a n, arm_bodies arms (stmt_numbering (arm_body a) n).1)

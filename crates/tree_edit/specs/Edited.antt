@@ -6,6 +6,7 @@ use Rattle.pascal_tree.specs.declared.stmt.Arm.{Arm}
 use Rattle.pascal_tree.specs.declared.decl.Block.{Block}
 use Rattle.pascal_tree.specs.declared.program.Tree.{Tree}
 use Rattle.pascal_tree.specs.Names.{Counts, names_within, stmt_renaming}
+use Rattle.pascal_tree.specs.Openness.{program_is_paired}
 use Rattle.pascal_tree.specs.Paths.{ItemValue, OfStmt, tree_at}
 use Rattle.pascal_tree.specs.Rows.{Row, stmt_rows, program_rows}
 use Rattle.program_tree.specs.Lookups.{name_of}
@@ -51,12 +52,20 @@ abbrev pub with_stmt : List ℕ → Stmt × ℕ → Tree → Tree
 with_stmt path r t = record { ident = t.ident; files = t.files; block = put_in_block path r.0 t.block; next = r.1 }
 
 -- the program with s in the place of the old statement at the path: the name stays, and what is inside has new names
+abbrev pub edited_program : Stmt → List ℕ → Stmt → Tree → Tree
+edited_program old path s t = with_stmt path (stmt_renaming (out-Stmt old).name.0 s t.next) t
+
+-- s can stand there, and in the edited program each `else` still belongs to its own `if` (6.8.3.4)
+abbrev pub is_right_kind : Stmt → List ℕ → Stmt → Tree → Bool
+is_right_kind old path s t = can_stand path s t.block && program_is_paired (edited_program old path s t)
+
+-- the edited program, or the first fault
 abbrev pub replaced_stmt : Stmt → List ℕ → ℕ → Stmt → Tree → Result Tree EditFault
 replaced_stmt old path n s t =
-    if can_stand path s t.block then
+    if is_right_kind old path s t then
     (if nat_lt 64 (last_level path s) then Err TooDeep
     else (if are_spent t.next (length (names_within s)) then Err NamesSpent
-    else Ok (with_stmt path (stmt_renaming (out-Stmt old).name.0 s t.next) t)))
+    else Ok (edited_program old path s t)))
     else Err (WrongKind (name_of n))
 
 -- the item as a statement, if it is one

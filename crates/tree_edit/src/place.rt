@@ -3,10 +3,10 @@ ghost use Rattle.std.specs.Prelude.{◌≡◌, IfOk};
 ghost use Rattle.pascal_tree.specs.declared.stmt.StmtKind.{out-StmtKind};
 ghost use Rattle.tree_edit.specs.Place as spec;
 
-use dice_base::{NoMemory, Text};
+use dice_base::NoMemory;
 use pascal_tree::{
     Access, Arm, Expr, Stmt, StmtKind, copy_accesses, copy_arms, copy_constants, copy_expr,
-    copy_stmt, copy_stmt_kind, copy_stmts,
+    copy_stmt, copy_stmt_kind, copy_stmts, make_for,
 };
 use sqlite_items::{Boxed, Items, at as item_at};
 use std::alloc::Global;
@@ -94,22 +94,6 @@ fn make_if(
 {
     let test = copy_expr(alloc, test)?;
     Ok(StmtKind::If(test, yes, no))
-}
-
-fn make_for(
-    alloc: Global,
-    ident: &Text,
-    first: &Expr,
-    down: bool,
-    last: &Expr,
-    body: Boxed<Stmt>,
-) -> Result<StmtKind, NoMemory>
-    ensures { IfOk result (λ r. r ≡ StmtKind.For ident.now first.now down last.now body) }
-{
-    let ident = ident.copy(alloc)?;
-    let first = copy_expr(alloc, first)?;
-    let last = copy_expr(alloc, last)?;
-    Ok(StmtKind::For(ident, first, down, last, body))
 }
 
 fn make_case(alloc: Global, selector: &Expr, arms: Items<Arm>) -> Result<StmtKind, NoMemory>

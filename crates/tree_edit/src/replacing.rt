@@ -1,21 +1,23 @@
 //! A statement in the place of another.
-ghost use Rattle.std.specs.Prelude.{◌≡◌, IfOk, OnErr, OnOk, Some, option_copied};
+ghost use Rattle.std.specs.Prelude.{◌≡◌, IfOk, OnErr, OnOk, Some, option_copied, true};
 ghost use Rattle.program_tree.specs.Lookups.{item_value};
 ghost use Rattle.program_tree.specs.Named.{IsNamed};
 ghost use Rattle.pascal_tree.specs.Paths.{OfStmt, tree_at};
 ghost use Rattle.pascal_tree.specs.Names.{Counts, names_within, stmt_renaming};
+ghost use Rattle.pascal_tree.specs.Openness.{program_is_paired};
 ghost use Rattle.pascal_tree.specs.declared.stmt.Stmt.{out-Stmt};
-ghost use Rattle.tree_edit.specs.Edited.{Edits, Gives, IsEditedRows, replaced_program, replaced_stmt, stmt_of, with_stmt};
+ghost use Rattle.tree_edit.specs.Edited.{Edits, Gives, IsEditedRows, is_right_kind, replaced_program, replaced_stmt, stmt_of, with_stmt};
 
 use crate::EditFault;
 use crate::blocks::put_block;
 use crate::checks::{are_spent, can_stand, is_too_deep};
-use crate::stmt_levels::stmt_depth;
+use crate::pairing::is_block_paired_with;
 use dice_base::{Name, NoMemory};
 use pascal_tree::{Stmt, copy_texts};
 use program_tree::{Item, Program};
 use sqlite_items::Boxed;
 use std::alloc::Global;
+use tree_checks::stmt_depth;
 use tree_names::name_stmt;
 
 // The program with this statement in the place at the path, and with this next name.
@@ -85,6 +87,14 @@ fn with_renamed(
     with_named(alloc, program, path, old, named.get(), next)
 }
 
+// Whether the statement can stand at the path, and each `else` still belongs to its own `if`.
+fn is_right_kind(program: &Program, old: &Stmt, path: &[u32], stmt: &Stmt) -> bool
+    ensures { result ≡ is_right_kind old.now path.now stmt.now program.now }
+{
+    let block = program.block();
+    can_stand(block, path, stmt) && is_block_paired_with(block, path, stmt)
+}
+
 fn replaced_stmt(
     alloc: Global,
     program: &Program,
@@ -96,7 +106,7 @@ fn replaced_stmt(
     requires { tree_at path.now program.now ≡ Some (OfStmt old.now) }
     ensures { Gives result (replaced_stmt old.now path.now name.0 stmt.now program.now) }
 {
-    if !can_stand(program.block(), path, stmt) {
+    if !is_right_kind(program, old, path, stmt) {
         return Err(EditFault::WrongKind(name));
     }
     if is_too_deep(path, stmt_depth(stmt)?) {
@@ -148,6 +158,8 @@ pub fn replace(
     ensures kept { OnErr result (program.new ≡ program.old) }
     // The rows of this statement have those of the new one in their place, and all other rows are as they were.
     ensures rows { OnOk result (IsEditedRows name.0 stmt.now program.old program.new) }
+    // Each `else` of the edited program belongs to its own `if`.
+    ensures paired { OnOk result (program_is_paired program.new ≡ true) }
 {
     let edited = replaced(alloc, program, name, stmt)?;
     *program = edited;

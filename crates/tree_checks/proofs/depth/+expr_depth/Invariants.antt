@@ -1,6 +1,6 @@
 use Rattle.std.proofs.Common.{◌≡◌, drop, max, map}
 use Rattle.pascal_tree.specs.Depth.{most, add_part_depth, mul_part_depth, member_depth, arg_depth, access_part_depth, expr_depth}
-use Rattle.tree_edit.proofs.depth.+expr_depth.Given as goal
+use Rattle.tree_checks.proofs.depth.+expr_depth.Given as goal
 
 abbrev pub invariant-add_parts_depth-loop-part : goal.invariant-add_parts_depth-loop-part
 invariant-add_parts_depth-loop-part l = max l.most (most (map add_part_depth (drop l.part-index l.parts))) ≡ most (map add_part_depth l.parts)
