@@ -11,6 +11,7 @@ pub mod Formed
 pub mod Gives
 pub mod Layers
 pub mod Nameless
+pub mod Renamed
 pub mod Spells
 pub mod StmtGives
 pub mod StmtLayers
