@@ -68,31 +68,42 @@ module _ (t : Tree) (x : Stmt) (formed : is_formed t ≡ true) (stmt_formed : is
       let (g, u) = and-parts (stmt_is_formed x) (is_paired x) r in
       record { is = f; levels = leb-true (tree_levels t) LEVELS n; stmt = g }
 
-  edited-formed : (old : Stmt) (path : List ℕ) → can_stand path x t.block ≡ true → program_is_paired (edited_program old path x t) ≡ true → last_level path x ≤ LEVELS
+  edited-formed : (old : Stmt) (path : List ℕ) → can_stand path x t.block ≡ true
+      → program_is_paired (edited_program old path x t) ≡ true → last_level path x ≤ LEVELS
       → is_formed (edited_program old path x t) ≡ true
   edited-formed old path stand paired levels =
       let new = (stmt_renaming (out-Stmt old).name.0 x t.next).0 in
-      let (p, b) = and-parts (is_identifier t.ident && all_formed (map is_identifier t.files)) (block_is_formed t.block) parts.is in
+      let (p, b) =
+      and-parts (is_identifier t.ident && all_formed (map is_identifier t.files))
+      (block_is_formed t.block) parts.is in
       let new_formed : stmt_is_formed new ≡ true = renamed-formed (out-Stmt old).name.0 x t.next ∙ parts.stmt in
-      let block : block_is_formed (put_in_block path new t.block) ≡ true = put_block-formed path new new_formed t.block
-      (λ to. renamed-body (out-Stmt old).name.0 x t.next (body-is x (stands (leads_to_body path t.block) (can_be_body x) stand to))) b in
+      let block : block_is_formed (put_in_block path new t.block) ≡ true =
+      put_block-formed path new new_formed t.block
+      (λ to. renamed-body (out-Stmt old).name.0 x t.next
+      (body-is x (stands (leads_to_body path t.block) (can_be_body x) stand to))) b in
       let bound = put_block-levels path new t.block in
       let same : stmt_depth new ≡ stmt_depth x = renamed-levels (out-Stmt old).name.0 x t.next in
-      let low : tree_levels (edited_program old path x t) ≤ LEVELS = omega (arith, bound, same, parts.levels, levels) in
-      and-true (program_is_formed (edited_program old path x t) && program_is_paired (edited_program old path x t)) (leb (tree_levels (edited_program old path x t)) LEVELS)
-      (and-true (program_is_formed (edited_program old path x t)) (program_is_paired (edited_program old path x t)) (and-true _ _ p block) paired)
+      let low : tree_levels (edited_program old path x t) ≤ LEVELS =
+      omega (arith, bound, same, parts.levels, levels) in
+      and-true (program_is_formed (edited_program old path x t) && program_is_paired (edited_program old path x t))
+      (leb (tree_levels (edited_program old path x t)) LEVELS)
+      (and-true (program_is_formed (edited_program old path x t)) (program_is_paired (edited_program old path x t))
+      (and-true _ _ p block) paired)
       (le-leb (tree_levels (edited_program old path x t)) LEVELS low)
 
   within : (old : Stmt) (path : List ℕ) (n : ℕ) → IfOk (replaced_stmt old path n x t) (λ u. is_formed u ≡ true)
-  within old path n = go (is_right_kind old path x t) refl (ltb 64 (last_level path x)) refl (are_spent t.next (length (names_within x))) where
-    go : (a : Bool) → is_right_kind old path x t ≡ a → (b : Bool) → ltb 64 (last_level path x) ≡ b → (c : Bool)
-        → IfOk (cond a (cond b (Err TooDeep) (cond c (Err NamesSpent) (Ok (edited_program old path x t)))) (Err (WrongKind (name_of n)))) (λ u. is_formed u ≡ true)
-    go false e b f c = tt
-    go true e true f c = tt
-    go true e false f true = tt
-    go true e false f false =
-        let (p, q) = and-parts (can_stand path x t.block) (program_is_paired (edited_program old path x t)) e in
-        edited-formed old path p q (grind (arith, nat_tests))
+  within old path n =
+      go (is_right_kind old path x t) refl (ltb 64 (last_level path x)) refl
+      (are_spent t.next (length (names_within x))) where
+        go : (a : Bool) → is_right_kind old path x t ≡ a → (b : Bool) → ltb 64 (last_level path x) ≡ b → (c : Bool)
+            → IfOk (cond a (cond b (Err TooDeep) (cond c (Err NamesSpent) (Ok (edited_program old path x t))))
+            (Err (WrongKind (name_of n)))) (λ u. is_formed u ≡ true)
+        go false e b f c = tt
+        go true e true f c = tt
+        go true e false f true = tt
+        go true e false f false =
+            let (p, q) = and-parts (can_stand path x t.block) (program_is_paired (edited_program old path x t)) e in
+            edited-formed old path p q (grind (arith, nat_tests))
 
   at-stmt : (o : Option Stmt) (path : List ℕ) (n : ℕ) → IfOk (replaced_at o path n x t) (λ u. is_formed u ≡ true)
   at-stmt None path n = tt
@@ -102,6 +113,7 @@ module _ (t : Tree) (x : Stmt) (formed : is_formed t ≡ true) (stmt_formed : is
   found None n = tt
   found (Some path) n = at-stmt (option_and_then stmt_of (tree_at path t)) path n
 
-pub replaced : (t : Tree) (x : Stmt) (n : ℕ) → is_formed t ≡ true → is_formed_stmt x ≡ true → IfOk (replaced_program n x t) (λ u. is_formed u ≡ true)
+pub replaced : (t : Tree) (x : Stmt) (n : ℕ) → is_formed t ≡ true → is_formed_stmt x ≡ true
+    → IfOk (replaced_program n x t) (λ u. is_formed u ≡ true)
 unfolding replaced_program
 replaced t x n f g = found t x f g (path_of n t) n

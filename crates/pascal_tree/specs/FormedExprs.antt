@@ -1,5 +1,5 @@
--- Which identifiers, numbers and strings a text can have (ISO 7185:1990, 6.1), and which expressions it can spell, levels
--- apart: those of such words in which no list is empty where the grammar (6.5, 6.7) wants one item or more.
+-- Which identifiers, numbers and strings a text can have (ISO 7185:1990, 6.1), and which expressions it can spell,
+-- levels apart: those of such words in which no list is empty where the grammar (6.5, 6.7) wants one item or more.
 use Rattle.std.specs.Prelude.{ℕ, Bool, true, false, ◌&&◌, ◌||◌, nat_le, List, [], ◌∷◌, Option, Some, None, is_none}
 use Rattle.std.specs.List.{list_all}
 use Rattle.dice_base.specs.Lexemes.{digit_byte, string_byte, largest_number, word_symbol}

@@ -41,15 +41,18 @@ pub record BodyFits (d : ℕ) (k : StmtKind) : Type 0 where
 
 compound-body : (xs : List Stmt) → is_body (make_stmt None (s.Compound xs)) ≡ true
 compound-body xs =
-    ap (λ (x : Stmt-F StmtKind Arm Stmt). is_none x.label && is_compound (out-StmtKind x.kind)) (out-roll-Stmt (record { name = no_name; label = None; kind = s.Compound xs }))
+    ap (λ (x : Stmt-F StmtKind Arm Stmt). is_none x.label && is_compound (out-StmtKind x.kind))
+    (out-roll-Stmt (record { name = no_name; label = None; kind = s.Compound xs }))
     ∙ ap is_compound (outs-Compound xs)
 
 pub body-gives : (d : ℕ) → Gives (body_at d) (λ k w. BodyFits d k)
 unfolding body_at
 body-gives zero = refused
 body-gives (suc d) =
-    mark (sequence-gives d (expr_at (suc d)) (expr_at d) (stmt_at d) (expr-gives (suc d)) (expr-gives d) (stmt-gives d) (λ xs f.
-    (let k = compound-of d (expr_at (suc d)) (expr_at d) (stmt_at d) (expr-gives (suc d)) (expr-gives d) (stmt-gives d) xs f in
+    mark (sequence-gives d (expr_at (suc d)) (expr_at d) (stmt_at d) (expr-gives (suc d)) (expr-gives d)
+    (stmt-gives d) (λ xs f.
+    (let k = compound-of d (expr_at (suc d)) (expr_at d) (stmt_at d) (expr-gives (suc d)) (expr-gives d)
+    (stmt-gives d) xs f in
     record { is_body = compound-body xs; fits = (stmt-given None (s.Compound xs) false refl k).fits })))
 
 -- ---- blocks and routines, where it holds of types, inner routines and bodies
@@ -68,8 +71,17 @@ module _ (d : ℕ) (T : Form TypeText) (P : Form Routine) (B : Form StmtKind)
   block-fits labels consts types vars rs body l c t v r b =
       let (p, q) = all-parts routine_is_formed routine_is_paired (λ e. e) rs r.is_formed in
       let (f, g) = and-parts _ _ b.fits.is_formed in
-      made block_layer (record { labels = labels; consts = consts; types = types; vars = vars; routines = rs; body = make_stmt None body })
-      (and-true _ _ (and-true _ _ (and-true _ _ (and-true _ _ (and-true _ _ (and-true _ _ l c.is_formed) t.is_formed) v.is_formed) p) (and-true _ _ b.is_body f)) (and-true _ _ q g))
+      made block_layer (record {
+        labels = labels;
+        consts = consts;
+        types = types;
+        vars = vars;
+        routines = rs;
+        body = make_stmt None body;
+      })
+      (and-true _ _ (and-true _ _
+      (and-true _ _ (and-true _ _ (and-true _ _ (and-true _ _ l c.is_formed) t.is_formed) v.is_formed) p)
+      (and-true _ _ b.is_body f)) (and-true _ _ q g))
       (omega (arith, t.levels, v.levels, r.levels, b.fits.levels))
 
   block-gives_in : Gives (block_form T P B) (Fitting block_is_whole block_depth (suc d))
@@ -81,13 +93,18 @@ module _ (d : ℕ) (T : Form TypeText) (P : Form Routine) (B : Form StmtKind)
       behind (items (behind routines (λ p w f. mark (give f)))) (λ rs w r.
       behind bodies (λ body w b. give (block-fits labels consts ts vars rs body l c t v r b)))))))
 
-  without-block : (h : Heading) → heading_is_formed h ≡ true → Fits routine_is_whole routine_depth (suc d) (make_routine h None)
-  without-block h e = made routine_layer (record { name = no_name; heading = h; block = None }) (and-true _ _ (and-true _ _ e refl) refl) (omega arith)
+  without-block : (h : Heading) → heading_is_formed h ≡ true
+      → Fits routine_is_whole routine_depth (suc d) (make_routine h None)
+  without-block h e =
+      made routine_layer (record { name = no_name; heading = h; block = None })
+      (and-true _ _ (and-true _ _ e refl) refl) (omega arith)
 
-  with-block : (h : Heading) (b : Block) → heading_is_formed h ≡ true → Fits block_is_whole block_depth (suc d) b → Fits routine_is_whole routine_depth (suc d) (make_routine h (Some b))
+  with-block : (h : Heading) (b : Block) → heading_is_formed h ≡ true → Fits block_is_whole block_depth (suc d) b
+      → Fits routine_is_whole routine_depth (suc d) (make_routine h (Some b))
   with-block h b e f =
       let (p, q) = and-parts _ _ f.is_formed in
-      made routine_layer (record { name = no_name; heading = h; block = Some b }) (and-true _ _ (and-true _ _ e p) q) (omega (arith, f.levels))
+      made routine_layer (record { name = no_name; heading = h; block = Some b }) (and-true _ _ (and-true _ _ e p) q)
+      (omega (arith, f.levels))
 
   routine-gives_in : Gives (routine_form T P B) (Fitting routine_is_whole routine_depth (suc d))
   routine-gives_in =
@@ -100,11 +117,15 @@ module _ (d : ℕ) (T : Form TypeText) (P : Form Routine) (B : Form StmtKind)
 pub routine-gives : (d : ℕ) → Gives (routine_at d) (Fitting routine_is_whole routine_depth d)
 unfolding routine_at
 routine-gives zero = refused
-routine-gives (suc d) = routine-gives_in d (type_at (suc d)) (routine_at d) (body_at d) (type-gives (suc d)) (routine-gives d) (body-gives d)
+routine-gives (suc d) =
+    routine-gives_in d (type_at (suc d)) (routine_at d) (body_at d) (type-gives (suc d)) (routine-gives d)
+    (body-gives d)
 
 pub block-gives : (d : ℕ) → Gives (block_at d) (Fitting block_is_whole block_depth (suc d))
 unfolding block_at
-block-gives d = block-gives_in d (type_at (suc d)) (routine_at d) (body_at d) (type-gives (suc d)) (routine-gives d) (body-gives d)
+block-gives d =
+    block-gives_in d (type_at (suc d)) (routine_at d) (body_at d) (type-gives (suc d)) (routine-gives d)
+    (body-gives d)
 
 -- ---- programs
 
@@ -113,13 +134,15 @@ pub record ProgramFits (d : ℕ) (p : Tree) : Type 0 where
   pub is_paired : program_is_paired p ≡ true
   pub levels : tree_levels p ≤ d
 
-all-identifiers : (xs : List (List ℕ)) (w : Bool) → AreFormed is_identifier xs w → all_formed (map is_identifier xs) ≡ true
+all-identifiers : (xs : List (List ℕ)) (w : Bool) → AreFormed is_identifier xs w
+    → all_formed (map is_identifier xs) ≡ true
 all-identifiers [] w e = absurd cc
 all-identifiers (x ∷ xs) w e = e
 
 files-gives : Gives files_form (λ xs w. all_formed (map is_identifier xs) ≡ true)
 files-gives =
-    choice (mark (behind (flat_list comma_class identifier) (λ xs w e. mark (give (all-identifiers xs w e))))) (give refl)
+    choice (mark (behind (flat_list comma_class identifier) (λ xs w e. mark (give (all-identifiers xs w e)))))
+    (give refl)
 
 pub program-gives : (d : ℕ) → Gives (program_at d) (λ p w. ProgramFits (suc d) p)
 unfolding program_at

@@ -35,11 +35,15 @@ block_whole x =
 abbrev pub block_levels : BlockLayer → ℕ
 block_levels x = depth_of_block (map-Block Block Routine ℕ ℕ block_depth routine_depth x)
 
-pub block-formed : (x : BlockLayer) → block_is_formed (roll-Block x) ≡ formed_block (map-Block Block Routine Bool Bool block_is_formed routine_is_formed x)
+pub block-formed : (x : BlockLayer)
+    → block_is_formed (roll-Block x) ≡ formed_block
+    (map-Block Block Routine Bool Bool block_is_formed routine_is_formed x)
 unfolding block_is_formed routine_is_formed
 block-formed x = fold-roll-Block Bool Bool formed_block formed_routine x
 
-pub routine-formed : (x : RoutineLayer) → routine_is_formed (roll-Routine x) ≡ formed_routine (map-Routine Block Routine Bool Bool block_is_formed routine_is_formed x)
+pub routine-formed : (x : RoutineLayer)
+    → routine_is_formed (roll-Routine x) ≡ formed_routine
+    (map-Routine Block Routine Bool Bool block_is_formed routine_is_formed x)
 unfolding block_is_formed routine_is_formed
 routine-formed x = fold-roll-Routine Bool Bool formed_block formed_routine x
 

@@ -20,7 +20,8 @@ use Rattle.tree_laws.proofs.TypeGives.{constant-gives, idents-gives, type-gives}
 
 pub labels-gives : (d : ℕ) → Gives labels_form (Fitting labels_are_formed decl_depth d)
 unfolding labels_are_formed decl_depth
-labels-gives d = behind (flat_list comma_class number) (λ ns w e. give (record { is_formed = e; levels = omega arith }))
+labels-gives d =
+    behind (flat_list comma_class number) (λ ns w e. give (record { is_formed = e; levels = omega arith }))
 
 pub constdef-gives : (d : ℕ) → Gives constdef_form (Fitting const_is_formed decl_depth d)
 unfolding const_is_formed decl_depth
@@ -48,10 +49,12 @@ abbrev pub of_kind : {B : Type 0} → (DeclKind → B) → Decl → B
 of_kind f d = f d.kind
 
 module _ {formed : DeclKind → Bool} {depth : DeclKind → ℕ} {d : ℕ} where
-  ended-gives : {K : Form DeclKind} → Gives K (Fitting formed depth d) → Gives (ended_form K) (Fitting (of_kind formed) (of_kind depth) d)
+  ended-gives : {K : Form DeclKind} → Gives K (Fitting formed depth d)
+      → Gives (ended_form K) (Fitting (of_kind formed) (of_kind depth) d)
   ended-gives inner = behind inner (λ kind w f. mark (give (record { is_formed = f.is_formed; levels = f.levels })))
 
-  pub part-gives : {K : Form DeclKind} (word : ℕ) → Gives K (Fitting formed depth d) → Gives (decls_part word K) (λ ds w. AllFit (of_kind formed) (of_kind depth) d ds)
+  pub part-gives : {K : Form DeclKind} (word : ℕ) → Gives K (Fitting formed depth d)
+      → Gives (decls_part word K) (λ ds w. AllFit (of_kind formed) (of_kind depth) d ds)
   part-gives word inner =
       choice (mark (weaken (some_items (ended-gives inner)) (λ ds w f. some-all ds f)))
       (give (record { is_formed = refl; levels = omega arith }))
@@ -94,26 +97,31 @@ module _ (d : ℕ) where
 -- ---- headings
 
 section-in-gives : (by_place : Bool) → Gives (section_in by_place) (λ s w. section_is_formed s ≡ true)
-section-in-gives by_place = behind idents-gives (λ xs w e. mark (behind identifier (λ x v f. give (and-true _ _ e f))))
+section-in-gives by_place =
+    behind idents-gives (λ xs w e. mark (behind identifier (λ x v f. give (and-true _ _ e f))))
 
 section-gives : Gives section_form (λ s w. section_is_formed s ≡ true)
 section-gives = choice (mark (section-in-gives true)) (section-in-gives false)
 
-some-all-formed : (ss : List Section) → (w : Bool) → AreFormed section_is_formed ss w → all_formed (map section_is_formed ss) ≡ true
+some-all-formed : (ss : List Section) → (w : Bool) → AreFormed section_is_formed ss w
+    → all_formed (map section_is_formed ss) ≡ true
 some-all-formed [] w e = absurd cc
 some-all-formed (s ∷ ss) w e = e
 
 params-gives : Gives params_form (λ ss w. all_formed (map section_is_formed ss) ≡ true)
 params-gives =
-    choice (mark (behind (flat_list semicolon_class section-gives) (λ ss w e. mark (give (some-all-formed ss w e))))) (give refl)
+    choice (mark (behind (flat_list semicolon_class section-gives) (λ ss w e. mark (give (some-all-formed ss w e)))))
+    (give refl)
 
 procedure-gives : Gives procedure_in (λ h w. heading_is_formed h ≡ true)
-procedure-gives = behind identifier (λ x w e. behind params-gives (λ ss v f. give (and-true _ _ (and-true _ _ e f) refl)))
+procedure-gives =
+    behind identifier (λ x w e. behind params-gives (λ ss v f. give (and-true _ _ (and-true _ _ e f) refl)))
 
 function-gives : Gives function_in (λ h w. heading_is_formed h ≡ true)
 function-gives =
     behind identifier (λ x w e.
-    choice (behind params-gives (λ ss v f. mark (behind identifier (λ r u g. give (and-true _ _ (and-true _ _ e f) g)))))
+    choice (behind params-gives
+    (λ ss v f. mark (behind identifier (λ r u g. give (and-true _ _ (and-true _ _ e f) g)))))
     (give (and-true _ _ (and-true _ _ e refl) refl)))
 
 pub heading-gives : Gives heading_form (λ h w. heading_is_formed h ≡ true)

@@ -46,7 +46,8 @@ module _ (d : ℕ) (T : Form TypeText) (inner : Spelling T type_is_formed type_d
   unfolding typedef_is_formed decl_depth
   typedef-spelled (decl.TypeDecl x t) f =
       let (p, q) = and-parts _ _ f.is_formed in
-      after (identifier x p) (sign signs.EQUAL refl (after (inner t (record { is_formed = q; levels = f.levels })) (done refl)))
+      after (identifier x p)
+      (sign signs.EQUAL refl (after (inner t (record { is_formed = q; levels = f.levels })) (done refl)))
   typedef-spelled (decl.LabelDecl ns) f = let e = f.is_formed in absurd cc
   typedef-spelled (decl.ConstDecl x c) f = let e = f.is_formed in absurd cc
   typedef-spelled (decl.VarDecl xs t) f = let e = f.is_formed in absurd cc
@@ -55,7 +56,8 @@ module _ (d : ℕ) (T : Form TypeText) (inner : Spelling T type_is_formed type_d
   unfolding vars_are_formed decl_depth
   vardef-spelled (decl.VarDecl xs t) f =
       let (p, q) = and-parts _ _ f.is_formed in
-      after (idents-spelled xs p) (sign signs.COLON refl (after (inner t (record { is_formed = q; levels = f.levels })) (done refl)))
+      after (idents-spelled xs p)
+      (sign signs.COLON refl (after (inner t (record { is_formed = q; levels = f.levels })) (done refl)))
   vardef-spelled (decl.LabelDecl ns) f = let e = f.is_formed in absurd cc
   vardef-spelled (decl.ConstDecl x c) f = let e = f.is_formed in absurd cc
   vardef-spelled (decl.TypeDecl x t) f = let e = f.is_formed in absurd cc
@@ -63,19 +65,26 @@ module _ (d : ℕ) (T : Form TypeText) (inner : Spelling T type_is_formed type_d
 -- ---- the parts of a block, without names
 
 module _ {formed : DeclKind → Bool} {depth : DeclKind → ℕ} {d : ℕ} where
-  ended-spelled : {K : Form DeclKind} → Spelling K formed depth d → (x : Decl) → Fits (of_kind formed) (of_kind depth) d x → Spelled (ended_form K) (unnamed_decl x) false
+  ended-spelled : {K : Form DeclKind} → Spelling K formed depth d → (x : Decl)
+      → Fits (of_kind formed) (of_kind depth) d x → Spelled (ended_form K) (unnamed_decl x) false
   ended-spelled inner x f =
-      after (inner x.kind (record { is_formed = f.is_formed; levels = f.levels })) (sign signs.SEMICOLON refl (done refl))
+      after (inner x.kind (record { is_formed = f.is_formed; levels = f.levels }))
+      (sign signs.SEMICOLON refl (done refl))
 
-  pub part-spelled : {K : Form DeclKind} (k : ℕ) → ltb k 35 ≡ true → Spelling K formed depth d → (ds : List Decl) → AllFit (of_kind formed) (of_kind depth) d ds → Spelled (decls_part (6 * k) K) (map unnamed_decl ds) false
+  pub part-spelled : {K : Form DeclKind} (k : ℕ) → ltb k 35 ≡ true → Spelling K formed depth d → (ds : List Decl)
+      → AllFit (of_kind formed) (of_kind depth) d ds → Spelled (decls_part (6 * k) K) (map unnamed_decl ds) false
   part-spelled k e inner [] f = right (done refl)
   part-spelled k e inner (x ∷ xs) f =
-      left (word k e (some_items_as (λ y g. (false, ended-spelled inner y g)) (x ∷ xs) (record { is_formed = f.is_formed; levels = f.levels })))
+      left (word k e (some_items_as (λ y g. (false, ended-spelled inner y g)) (x ∷ xs)
+      (record { is_formed = f.is_formed; levels = f.levels })))
 
-pub label-part-spelled : (labels : Option Decl) → label_part_is_formed labels ≡ true → Spelled labels_part (option_map unnamed_decl labels) false
+pub label-part-spelled : (labels : Option Decl) → label_part_is_formed labels ≡ true
+    → Spelled labels_part (option_map unnamed_decl labels) false
 label-part-spelled None e = right (done refl)
 label-part-spelled (Some x) e =
-    left (word words.LABEL refl (after (after (labels-spelled (decl_depth x.kind) x.kind (record { is_formed = e; levels = omega arith })) (sign signs.SEMICOLON refl (done refl))) (done refl)))
+    left (word words.LABEL refl
+    (after (after (labels-spelled (decl_depth x.kind) x.kind (record { is_formed = e; levels = omega arith }))
+    (sign signs.SEMICOLON refl (done refl))) (done refl)))
 
 -- ---- a declaration by itself
 
@@ -83,7 +92,8 @@ or-elim : {P : Type 0} (a b : Bool) → (a ≡ true → P) → (b ≡ true → P
 or-elim true b f g e = f refl
 or-elim false b f g e = g e
 
-pub decl-spelled : (d : ℕ) (x : Decl) → Fits (of_kind decl_is_formed) (of_kind decl_depth) d x → Spelled (decl_at d) (unnamed_decl x) false
+pub decl-spelled : (d : ℕ) (x : Decl) → Fits (of_kind decl_is_formed) (of_kind decl_depth) d x
+    → Spelled (decl_at d) (unnamed_decl x) false
 unfolding decl_at
 decl-spelled d x f =
     after
@@ -91,18 +101,25 @@ decl-spelled d x f =
     (or-elim _ _
     (or-elim _ _
     (λ e. left (word words.LABEL refl (labels-spelled d x.kind (record { is_formed = e; levels = f.levels }))))
-    (λ e. right (left (word words.CONST refl (constdef-spelled d x.kind (record { is_formed = e; levels = f.levels }))))))
-    (λ e. right (right (left (word words.TYPE refl (typedef-spelled d (type_at d) (type-spelled d) x.kind (record { is_formed = e; levels = f.levels })))))))
-    (λ e. right (right (right (word words.VAR refl (vardef-spelled d (type_at d) (type-spelled d) x.kind (record { is_formed = e; levels = f.levels }))))))
+    (λ e. right (left (word words.CONST refl
+    (constdef-spelled d x.kind (record { is_formed = e; levels = f.levels }))))))
+    (λ e. right (right (left
+    (word words.TYPE refl
+    (typedef-spelled d (type_at d) (type-spelled d) x.kind (record { is_formed = e; levels = f.levels })))))))
+    (λ e. right (right (right
+    (word words.VAR refl
+    (vardef-spelled d (type_at d) (type-spelled d) x.kind (record { is_formed = e; levels = f.levels }))))))
     f.is_formed)
     (done refl)
 
 -- ---- headings
 
-section-spelled : (by_place : Bool) (xs : List (List ℕ)) (x : List ℕ) → section_is_formed (make_section by_place xs x) ≡ true → Spelled section_form (make_section by_place xs x) false
+section-spelled : (by_place : Bool) (xs : List (List ℕ)) (x : List ℕ)
+    → section_is_formed (make_section by_place xs x) ≡ true → Spelled section_form (make_section by_place xs x) false
 section-spelled true xs x e =
     let (p, q) = and-parts _ _ e in
-    left (word words.VAR refl (after (idents-spelled xs p) (sign signs.COLON refl (after (identifier x q) (done refl)))))
+    left (word words.VAR refl
+    (after (idents-spelled xs p) (sign signs.COLON refl (after (identifier x q) (done refl)))))
 section-spelled false xs x e =
     let (p, q) = and-parts _ _ e in
     right (after (idents-spelled xs p) (sign signs.COLON refl (after (identifier x q) (done refl))))
@@ -110,17 +127,22 @@ section-spelled false xs x e =
 params-spelled : (ss : List Section) → all_formed (map section_is_formed ss) ≡ true → Spelled params_form ss false
 params-spelled [] e = right (done refl)
 params-spelled (s ∷ ss) e =
-    left (sign signs.OPEN refl (after (flat_list signs.SEMICOLON refl (λ x f. section-spelled x.by_place x.idents x.shape f) (s ∷ ss) e)
+    left (sign signs.OPEN refl
+    (after (flat_list signs.SEMICOLON refl (λ x f. section-spelled x.by_place x.idents x.shape f) (s ∷ ss) e)
     (sign signs.CLOSE refl (done refl))))
 
-heading-of : (function : Bool) (x : List ℕ) (ss : List Section) (result : Option (List ℕ)) → is_identifier x ≡ true → all_formed (map section_is_formed ss) ≡ true
+heading-of : (function : Bool) (x : List ℕ) (ss : List Section) (result : Option (List ℕ)) → is_identifier x ≡ true
+    → all_formed (map section_is_formed ss) ≡ true
     → result_is_formed function ss result ≡ true → Spelled heading_form (make_heading function x ss result) false
-heading-of false x ss None p q r = left (word words.PROCEDURE refl (after (identifier x p) (after (params-spelled ss q) (done refl))))
+heading-of false x ss None p q r =
+    left (word words.PROCEDURE refl (after (identifier x p) (after (params-spelled ss q) (done refl))))
 heading-of false x ss (Some y) p q r = absurd cc
 heading-of true x [] None p q r = right (word words.FUNCTION refl (after (identifier x p) (right (done refl))))
 heading-of true x (s ∷ ss) None p q r = absurd cc
 heading-of true x ss (Some y) p q r =
-    right (word words.FUNCTION refl (after (identifier x p) (left (after (params-spelled ss q) (sign signs.COLON refl (after (identifier y r) (done refl)))))))
+    right (word words.FUNCTION refl
+    (after (identifier x p)
+    (left (after (params-spelled ss q) (sign signs.COLON refl (after (identifier y r) (done refl)))))))
 
 pub heading-spelled : (h : Heading) → heading_is_formed h ≡ true → Spelled heading_form h false
 heading-spelled h e =

@@ -55,22 +55,30 @@ TermLayer = Term-F AccessPart Factor Access AddPart Arg Expr MulPart RelPart Set
 
 abbrev pub access_part_formed : AccessPartLayer → Bool
 access_part_formed x =
-    formed_access_part (map-AccessPart AccessPart Factor Access AddPart Arg Expr MulPart RelPart SetMember SumExpr Term
+    formed_access_part (map-AccessPart AccessPart Factor Access AddPart Arg Expr MulPart RelPart SetMember SumExpr
+    Term
     Bool Bool Bool Bool Bool Bool Bool Bool Bool Bool Bool
     access_part_is_formed factor_is_formed access_is_formed add_part_is_formed arg_is_formed expr_is_formed
     mul_part_is_formed rel_part_is_formed member_is_formed sum_is_formed term_is_formed x)
 
 abbrev pub access_part_levels : AccessPartLayer → ℕ
 access_part_levels x =
-    depth_of_access_part (map-AccessPart AccessPart Factor Access AddPart Arg Expr MulPart RelPart SetMember SumExpr Term
+    depth_of_access_part
+    (map-AccessPart AccessPart Factor Access AddPart Arg Expr MulPart RelPart SetMember SumExpr Term
     ℕ ℕ ℕ ℕ ℕ ℕ ℕ ℕ ℕ ℕ ℕ
-    access_part_depth factor_depth access_depth add_part_depth arg_depth expr_depth mul_part_depth rel_part_depth member_depth sum_depth term_depth x)
+    access_part_depth factor_depth access_depth add_part_depth arg_depth expr_depth mul_part_depth rel_part_depth
+    member_depth sum_depth term_depth x)
 
-pub access_part_layer : Layer access_part_is_formed access_part_depth roll-AccessPart access_part_formed access_part_levels
+pub access_part_layer : Layer access_part_is_formed access_part_depth roll-AccessPart access_part_formed
+    access_part_levels
 unfolding access_part_is_formed factor_is_formed access_is_formed add_part_is_formed arg_is_formed expr_is_formed mul_part_is_formed rel_part_is_formed member_is_formed sum_is_formed term_is_formed access_part_depth factor_depth access_depth add_part_depth arg_depth expr_depth mul_part_depth rel_part_depth member_depth sum_depth term_depth
 access_part_layer = record {
-  formed_is = λ x. fold-roll-AccessPart Bool Bool Bool Bool Bool Bool Bool Bool Bool Bool Bool formed_access_part formed_factor formed_access formed_add_part formed_arg formed_expr formed_mul_part formed_rel_part formed_member formed_sum formed_term x;
-  depth_is = λ x. fold-roll-AccessPart ℕ ℕ ℕ ℕ ℕ ℕ ℕ ℕ ℕ ℕ ℕ depth_of_access_part depth_of_factor depth_of_access depth_of_add_part depth_of_arg depth_of_expr depth_of_mul_part depth_of_rel_part depth_of_member depth_of_sum depth_of_term x;
+  formed_is = λ x. fold-roll-AccessPart Bool Bool Bool Bool Bool Bool Bool Bool Bool Bool Bool formed_access_part
+      formed_factor formed_access formed_add_part formed_arg formed_expr formed_mul_part formed_rel_part formed_member
+      formed_sum formed_term x;
+  depth_is = λ x. fold-roll-AccessPart ℕ ℕ ℕ ℕ ℕ ℕ ℕ ℕ ℕ ℕ ℕ depth_of_access_part depth_of_factor depth_of_access
+      depth_of_add_part depth_of_arg depth_of_expr depth_of_mul_part depth_of_rel_part depth_of_member depth_of_sum
+      depth_of_term x;
 }
 
 abbrev pub factor_formed : FactorLayer → Bool
@@ -84,13 +92,18 @@ abbrev pub factor_levels : FactorLayer → ℕ
 factor_levels x =
     depth_of_factor (map-Factor AccessPart Factor Access AddPart Arg Expr MulPart RelPart SetMember SumExpr Term
     ℕ ℕ ℕ ℕ ℕ ℕ ℕ ℕ ℕ ℕ ℕ
-    access_part_depth factor_depth access_depth add_part_depth arg_depth expr_depth mul_part_depth rel_part_depth member_depth sum_depth term_depth x)
+    access_part_depth factor_depth access_depth add_part_depth arg_depth expr_depth mul_part_depth rel_part_depth
+    member_depth sum_depth term_depth x)
 
 pub factor_layer : Layer factor_is_formed factor_depth roll-Factor factor_formed factor_levels
 unfolding access_part_is_formed factor_is_formed access_is_formed add_part_is_formed arg_is_formed expr_is_formed mul_part_is_formed rel_part_is_formed member_is_formed sum_is_formed term_is_formed access_part_depth factor_depth access_depth add_part_depth arg_depth expr_depth mul_part_depth rel_part_depth member_depth sum_depth term_depth
 factor_layer = record {
-  formed_is = λ x. fold-roll-Factor Bool Bool Bool Bool Bool Bool Bool Bool Bool Bool Bool formed_access_part formed_factor formed_access formed_add_part formed_arg formed_expr formed_mul_part formed_rel_part formed_member formed_sum formed_term x;
-  depth_is = λ x. fold-roll-Factor ℕ ℕ ℕ ℕ ℕ ℕ ℕ ℕ ℕ ℕ ℕ depth_of_access_part depth_of_factor depth_of_access depth_of_add_part depth_of_arg depth_of_expr depth_of_mul_part depth_of_rel_part depth_of_member depth_of_sum depth_of_term x;
+  formed_is = λ x. fold-roll-Factor Bool Bool Bool Bool Bool Bool Bool Bool Bool Bool Bool formed_access_part
+      formed_factor formed_access formed_add_part formed_arg formed_expr formed_mul_part formed_rel_part formed_member
+      formed_sum formed_term x;
+  depth_is = λ x. fold-roll-Factor ℕ ℕ ℕ ℕ ℕ ℕ ℕ ℕ ℕ ℕ ℕ depth_of_access_part depth_of_factor depth_of_access
+      depth_of_add_part depth_of_arg depth_of_expr depth_of_mul_part depth_of_rel_part depth_of_member depth_of_sum
+      depth_of_term x;
 }
 
 abbrev pub access_formed : AccessLayer → Bool
@@ -104,13 +117,18 @@ abbrev pub access_levels : AccessLayer → ℕ
 access_levels x =
     depth_of_access (map-Access AccessPart Factor Access AddPart Arg Expr MulPart RelPart SetMember SumExpr Term
     ℕ ℕ ℕ ℕ ℕ ℕ ℕ ℕ ℕ ℕ ℕ
-    access_part_depth factor_depth access_depth add_part_depth arg_depth expr_depth mul_part_depth rel_part_depth member_depth sum_depth term_depth x)
+    access_part_depth factor_depth access_depth add_part_depth arg_depth expr_depth mul_part_depth rel_part_depth
+    member_depth sum_depth term_depth x)
 
 pub access_layer : Layer access_is_formed access_depth roll-Access access_formed access_levels
 unfolding access_part_is_formed factor_is_formed access_is_formed add_part_is_formed arg_is_formed expr_is_formed mul_part_is_formed rel_part_is_formed member_is_formed sum_is_formed term_is_formed access_part_depth factor_depth access_depth add_part_depth arg_depth expr_depth mul_part_depth rel_part_depth member_depth sum_depth term_depth
 access_layer = record {
-  formed_is = λ x. fold-roll-Access Bool Bool Bool Bool Bool Bool Bool Bool Bool Bool Bool formed_access_part formed_factor formed_access formed_add_part formed_arg formed_expr formed_mul_part formed_rel_part formed_member formed_sum formed_term x;
-  depth_is = λ x. fold-roll-Access ℕ ℕ ℕ ℕ ℕ ℕ ℕ ℕ ℕ ℕ ℕ depth_of_access_part depth_of_factor depth_of_access depth_of_add_part depth_of_arg depth_of_expr depth_of_mul_part depth_of_rel_part depth_of_member depth_of_sum depth_of_term x;
+  formed_is = λ x. fold-roll-Access Bool Bool Bool Bool Bool Bool Bool Bool Bool Bool Bool formed_access_part
+      formed_factor formed_access formed_add_part formed_arg formed_expr formed_mul_part formed_rel_part formed_member
+      formed_sum formed_term x;
+  depth_is = λ x. fold-roll-Access ℕ ℕ ℕ ℕ ℕ ℕ ℕ ℕ ℕ ℕ ℕ depth_of_access_part depth_of_factor depth_of_access
+      depth_of_add_part depth_of_arg depth_of_expr depth_of_mul_part depth_of_rel_part depth_of_member depth_of_sum
+      depth_of_term x;
 }
 
 abbrev pub add_part_formed : AddPartLayer → Bool
@@ -124,13 +142,18 @@ abbrev pub add_part_levels : AddPartLayer → ℕ
 add_part_levels x =
     depth_of_add_part (map-AddPart AccessPart Factor Access AddPart Arg Expr MulPart RelPart SetMember SumExpr Term
     ℕ ℕ ℕ ℕ ℕ ℕ ℕ ℕ ℕ ℕ ℕ
-    access_part_depth factor_depth access_depth add_part_depth arg_depth expr_depth mul_part_depth rel_part_depth member_depth sum_depth term_depth x)
+    access_part_depth factor_depth access_depth add_part_depth arg_depth expr_depth mul_part_depth rel_part_depth
+    member_depth sum_depth term_depth x)
 
 pub add_part_layer : Layer add_part_is_formed add_part_depth roll-AddPart add_part_formed add_part_levels
 unfolding access_part_is_formed factor_is_formed access_is_formed add_part_is_formed arg_is_formed expr_is_formed mul_part_is_formed rel_part_is_formed member_is_formed sum_is_formed term_is_formed access_part_depth factor_depth access_depth add_part_depth arg_depth expr_depth mul_part_depth rel_part_depth member_depth sum_depth term_depth
 add_part_layer = record {
-  formed_is = λ x. fold-roll-AddPart Bool Bool Bool Bool Bool Bool Bool Bool Bool Bool Bool formed_access_part formed_factor formed_access formed_add_part formed_arg formed_expr formed_mul_part formed_rel_part formed_member formed_sum formed_term x;
-  depth_is = λ x. fold-roll-AddPart ℕ ℕ ℕ ℕ ℕ ℕ ℕ ℕ ℕ ℕ ℕ depth_of_access_part depth_of_factor depth_of_access depth_of_add_part depth_of_arg depth_of_expr depth_of_mul_part depth_of_rel_part depth_of_member depth_of_sum depth_of_term x;
+  formed_is = λ x. fold-roll-AddPart Bool Bool Bool Bool Bool Bool Bool Bool Bool Bool Bool formed_access_part
+      formed_factor formed_access formed_add_part formed_arg formed_expr formed_mul_part formed_rel_part formed_member
+      formed_sum formed_term x;
+  depth_is = λ x. fold-roll-AddPart ℕ ℕ ℕ ℕ ℕ ℕ ℕ ℕ ℕ ℕ ℕ depth_of_access_part depth_of_factor depth_of_access
+      depth_of_add_part depth_of_arg depth_of_expr depth_of_mul_part depth_of_rel_part depth_of_member depth_of_sum
+      depth_of_term x;
 }
 
 abbrev pub arg_formed : ArgLayer → Bool
@@ -144,13 +167,18 @@ abbrev pub arg_levels : ArgLayer → ℕ
 arg_levels x =
     depth_of_arg (map-Arg AccessPart Factor Access AddPart Arg Expr MulPart RelPart SetMember SumExpr Term
     ℕ ℕ ℕ ℕ ℕ ℕ ℕ ℕ ℕ ℕ ℕ
-    access_part_depth factor_depth access_depth add_part_depth arg_depth expr_depth mul_part_depth rel_part_depth member_depth sum_depth term_depth x)
+    access_part_depth factor_depth access_depth add_part_depth arg_depth expr_depth mul_part_depth rel_part_depth
+    member_depth sum_depth term_depth x)
 
 pub arg_layer : Layer arg_is_formed arg_depth roll-Arg arg_formed arg_levels
 unfolding access_part_is_formed factor_is_formed access_is_formed add_part_is_formed arg_is_formed expr_is_formed mul_part_is_formed rel_part_is_formed member_is_formed sum_is_formed term_is_formed access_part_depth factor_depth access_depth add_part_depth arg_depth expr_depth mul_part_depth rel_part_depth member_depth sum_depth term_depth
 arg_layer = record {
-  formed_is = λ x. fold-roll-Arg Bool Bool Bool Bool Bool Bool Bool Bool Bool Bool Bool formed_access_part formed_factor formed_access formed_add_part formed_arg formed_expr formed_mul_part formed_rel_part formed_member formed_sum formed_term x;
-  depth_is = λ x. fold-roll-Arg ℕ ℕ ℕ ℕ ℕ ℕ ℕ ℕ ℕ ℕ ℕ depth_of_access_part depth_of_factor depth_of_access depth_of_add_part depth_of_arg depth_of_expr depth_of_mul_part depth_of_rel_part depth_of_member depth_of_sum depth_of_term x;
+  formed_is = λ x. fold-roll-Arg Bool Bool Bool Bool Bool Bool Bool Bool Bool Bool Bool formed_access_part
+      formed_factor formed_access formed_add_part formed_arg formed_expr formed_mul_part formed_rel_part formed_member
+      formed_sum formed_term x;
+  depth_is = λ x. fold-roll-Arg ℕ ℕ ℕ ℕ ℕ ℕ ℕ ℕ ℕ ℕ ℕ depth_of_access_part depth_of_factor depth_of_access
+      depth_of_add_part depth_of_arg depth_of_expr depth_of_mul_part depth_of_rel_part depth_of_member depth_of_sum
+      depth_of_term x;
 }
 
 abbrev pub expr_formed : ExprLayer → Bool
@@ -164,13 +192,18 @@ abbrev pub expr_levels : ExprLayer → ℕ
 expr_levels x =
     depth_of_expr (map-Expr AccessPart Factor Access AddPart Arg Expr MulPart RelPart SetMember SumExpr Term
     ℕ ℕ ℕ ℕ ℕ ℕ ℕ ℕ ℕ ℕ ℕ
-    access_part_depth factor_depth access_depth add_part_depth arg_depth expr_depth mul_part_depth rel_part_depth member_depth sum_depth term_depth x)
+    access_part_depth factor_depth access_depth add_part_depth arg_depth expr_depth mul_part_depth rel_part_depth
+    member_depth sum_depth term_depth x)
 
 pub expr_layer : Layer expr_is_formed expr_depth roll-Expr expr_formed expr_levels
 unfolding access_part_is_formed factor_is_formed access_is_formed add_part_is_formed arg_is_formed expr_is_formed mul_part_is_formed rel_part_is_formed member_is_formed sum_is_formed term_is_formed access_part_depth factor_depth access_depth add_part_depth arg_depth expr_depth mul_part_depth rel_part_depth member_depth sum_depth term_depth
 expr_layer = record {
-  formed_is = λ x. fold-roll-Expr Bool Bool Bool Bool Bool Bool Bool Bool Bool Bool Bool formed_access_part formed_factor formed_access formed_add_part formed_arg formed_expr formed_mul_part formed_rel_part formed_member formed_sum formed_term x;
-  depth_is = λ x. fold-roll-Expr ℕ ℕ ℕ ℕ ℕ ℕ ℕ ℕ ℕ ℕ ℕ depth_of_access_part depth_of_factor depth_of_access depth_of_add_part depth_of_arg depth_of_expr depth_of_mul_part depth_of_rel_part depth_of_member depth_of_sum depth_of_term x;
+  formed_is = λ x. fold-roll-Expr Bool Bool Bool Bool Bool Bool Bool Bool Bool Bool Bool formed_access_part
+      formed_factor formed_access formed_add_part formed_arg formed_expr formed_mul_part formed_rel_part formed_member
+      formed_sum formed_term x;
+  depth_is = λ x. fold-roll-Expr ℕ ℕ ℕ ℕ ℕ ℕ ℕ ℕ ℕ ℕ ℕ depth_of_access_part depth_of_factor depth_of_access
+      depth_of_add_part depth_of_arg depth_of_expr depth_of_mul_part depth_of_rel_part depth_of_member depth_of_sum
+      depth_of_term x;
 }
 
 abbrev pub mul_part_formed : MulPartLayer → Bool
@@ -184,13 +217,18 @@ abbrev pub mul_part_levels : MulPartLayer → ℕ
 mul_part_levels x =
     depth_of_mul_part (map-MulPart AccessPart Factor Access AddPart Arg Expr MulPart RelPart SetMember SumExpr Term
     ℕ ℕ ℕ ℕ ℕ ℕ ℕ ℕ ℕ ℕ ℕ
-    access_part_depth factor_depth access_depth add_part_depth arg_depth expr_depth mul_part_depth rel_part_depth member_depth sum_depth term_depth x)
+    access_part_depth factor_depth access_depth add_part_depth arg_depth expr_depth mul_part_depth rel_part_depth
+    member_depth sum_depth term_depth x)
 
 pub mul_part_layer : Layer mul_part_is_formed mul_part_depth roll-MulPart mul_part_formed mul_part_levels
 unfolding access_part_is_formed factor_is_formed access_is_formed add_part_is_formed arg_is_formed expr_is_formed mul_part_is_formed rel_part_is_formed member_is_formed sum_is_formed term_is_formed access_part_depth factor_depth access_depth add_part_depth arg_depth expr_depth mul_part_depth rel_part_depth member_depth sum_depth term_depth
 mul_part_layer = record {
-  formed_is = λ x. fold-roll-MulPart Bool Bool Bool Bool Bool Bool Bool Bool Bool Bool Bool formed_access_part formed_factor formed_access formed_add_part formed_arg formed_expr formed_mul_part formed_rel_part formed_member formed_sum formed_term x;
-  depth_is = λ x. fold-roll-MulPart ℕ ℕ ℕ ℕ ℕ ℕ ℕ ℕ ℕ ℕ ℕ depth_of_access_part depth_of_factor depth_of_access depth_of_add_part depth_of_arg depth_of_expr depth_of_mul_part depth_of_rel_part depth_of_member depth_of_sum depth_of_term x;
+  formed_is = λ x. fold-roll-MulPart Bool Bool Bool Bool Bool Bool Bool Bool Bool Bool Bool formed_access_part
+      formed_factor formed_access formed_add_part formed_arg formed_expr formed_mul_part formed_rel_part formed_member
+      formed_sum formed_term x;
+  depth_is = λ x. fold-roll-MulPart ℕ ℕ ℕ ℕ ℕ ℕ ℕ ℕ ℕ ℕ ℕ depth_of_access_part depth_of_factor depth_of_access
+      depth_of_add_part depth_of_arg depth_of_expr depth_of_mul_part depth_of_rel_part depth_of_member depth_of_sum
+      depth_of_term x;
 }
 
 abbrev pub rel_part_formed : RelPartLayer → Bool
@@ -204,13 +242,18 @@ abbrev pub rel_part_levels : RelPartLayer → ℕ
 rel_part_levels x =
     depth_of_rel_part (map-RelPart AccessPart Factor Access AddPart Arg Expr MulPart RelPart SetMember SumExpr Term
     ℕ ℕ ℕ ℕ ℕ ℕ ℕ ℕ ℕ ℕ ℕ
-    access_part_depth factor_depth access_depth add_part_depth arg_depth expr_depth mul_part_depth rel_part_depth member_depth sum_depth term_depth x)
+    access_part_depth factor_depth access_depth add_part_depth arg_depth expr_depth mul_part_depth rel_part_depth
+    member_depth sum_depth term_depth x)
 
 pub rel_part_layer : Layer rel_part_is_formed rel_part_depth roll-RelPart rel_part_formed rel_part_levels
 unfolding access_part_is_formed factor_is_formed access_is_formed add_part_is_formed arg_is_formed expr_is_formed mul_part_is_formed rel_part_is_formed member_is_formed sum_is_formed term_is_formed access_part_depth factor_depth access_depth add_part_depth arg_depth expr_depth mul_part_depth rel_part_depth member_depth sum_depth term_depth
 rel_part_layer = record {
-  formed_is = λ x. fold-roll-RelPart Bool Bool Bool Bool Bool Bool Bool Bool Bool Bool Bool formed_access_part formed_factor formed_access formed_add_part formed_arg formed_expr formed_mul_part formed_rel_part formed_member formed_sum formed_term x;
-  depth_is = λ x. fold-roll-RelPart ℕ ℕ ℕ ℕ ℕ ℕ ℕ ℕ ℕ ℕ ℕ depth_of_access_part depth_of_factor depth_of_access depth_of_add_part depth_of_arg depth_of_expr depth_of_mul_part depth_of_rel_part depth_of_member depth_of_sum depth_of_term x;
+  formed_is = λ x. fold-roll-RelPart Bool Bool Bool Bool Bool Bool Bool Bool Bool Bool Bool formed_access_part
+      formed_factor formed_access formed_add_part formed_arg formed_expr formed_mul_part formed_rel_part formed_member
+      formed_sum formed_term x;
+  depth_is = λ x. fold-roll-RelPart ℕ ℕ ℕ ℕ ℕ ℕ ℕ ℕ ℕ ℕ ℕ depth_of_access_part depth_of_factor depth_of_access
+      depth_of_add_part depth_of_arg depth_of_expr depth_of_mul_part depth_of_rel_part depth_of_member depth_of_sum
+      depth_of_term x;
 }
 
 abbrev pub member_formed : SetMemberLayer → Bool
@@ -224,13 +267,18 @@ abbrev pub member_levels : SetMemberLayer → ℕ
 member_levels x =
     depth_of_member (map-SetMember AccessPart Factor Access AddPart Arg Expr MulPart RelPart SetMember SumExpr Term
     ℕ ℕ ℕ ℕ ℕ ℕ ℕ ℕ ℕ ℕ ℕ
-    access_part_depth factor_depth access_depth add_part_depth arg_depth expr_depth mul_part_depth rel_part_depth member_depth sum_depth term_depth x)
+    access_part_depth factor_depth access_depth add_part_depth arg_depth expr_depth mul_part_depth rel_part_depth
+    member_depth sum_depth term_depth x)
 
 pub member_layer : Layer member_is_formed member_depth roll-SetMember member_formed member_levels
 unfolding access_part_is_formed factor_is_formed access_is_formed add_part_is_formed arg_is_formed expr_is_formed mul_part_is_formed rel_part_is_formed member_is_formed sum_is_formed term_is_formed access_part_depth factor_depth access_depth add_part_depth arg_depth expr_depth mul_part_depth rel_part_depth member_depth sum_depth term_depth
 member_layer = record {
-  formed_is = λ x. fold-roll-SetMember Bool Bool Bool Bool Bool Bool Bool Bool Bool Bool Bool formed_access_part formed_factor formed_access formed_add_part formed_arg formed_expr formed_mul_part formed_rel_part formed_member formed_sum formed_term x;
-  depth_is = λ x. fold-roll-SetMember ℕ ℕ ℕ ℕ ℕ ℕ ℕ ℕ ℕ ℕ ℕ depth_of_access_part depth_of_factor depth_of_access depth_of_add_part depth_of_arg depth_of_expr depth_of_mul_part depth_of_rel_part depth_of_member depth_of_sum depth_of_term x;
+  formed_is = λ x. fold-roll-SetMember Bool Bool Bool Bool Bool Bool Bool Bool Bool Bool Bool formed_access_part
+      formed_factor formed_access formed_add_part formed_arg formed_expr formed_mul_part formed_rel_part formed_member
+      formed_sum formed_term x;
+  depth_is = λ x. fold-roll-SetMember ℕ ℕ ℕ ℕ ℕ ℕ ℕ ℕ ℕ ℕ ℕ depth_of_access_part depth_of_factor depth_of_access
+      depth_of_add_part depth_of_arg depth_of_expr depth_of_mul_part depth_of_rel_part depth_of_member depth_of_sum
+      depth_of_term x;
 }
 
 abbrev pub sum_formed : SumExprLayer → Bool
@@ -244,13 +292,18 @@ abbrev pub sum_levels : SumExprLayer → ℕ
 sum_levels x =
     depth_of_sum (map-SumExpr AccessPart Factor Access AddPart Arg Expr MulPart RelPart SetMember SumExpr Term
     ℕ ℕ ℕ ℕ ℕ ℕ ℕ ℕ ℕ ℕ ℕ
-    access_part_depth factor_depth access_depth add_part_depth arg_depth expr_depth mul_part_depth rel_part_depth member_depth sum_depth term_depth x)
+    access_part_depth factor_depth access_depth add_part_depth arg_depth expr_depth mul_part_depth rel_part_depth
+    member_depth sum_depth term_depth x)
 
 pub sum_layer : Layer sum_is_formed sum_depth roll-SumExpr sum_formed sum_levels
 unfolding access_part_is_formed factor_is_formed access_is_formed add_part_is_formed arg_is_formed expr_is_formed mul_part_is_formed rel_part_is_formed member_is_formed sum_is_formed term_is_formed access_part_depth factor_depth access_depth add_part_depth arg_depth expr_depth mul_part_depth rel_part_depth member_depth sum_depth term_depth
 sum_layer = record {
-  formed_is = λ x. fold-roll-SumExpr Bool Bool Bool Bool Bool Bool Bool Bool Bool Bool Bool formed_access_part formed_factor formed_access formed_add_part formed_arg formed_expr formed_mul_part formed_rel_part formed_member formed_sum formed_term x;
-  depth_is = λ x. fold-roll-SumExpr ℕ ℕ ℕ ℕ ℕ ℕ ℕ ℕ ℕ ℕ ℕ depth_of_access_part depth_of_factor depth_of_access depth_of_add_part depth_of_arg depth_of_expr depth_of_mul_part depth_of_rel_part depth_of_member depth_of_sum depth_of_term x;
+  formed_is = λ x. fold-roll-SumExpr Bool Bool Bool Bool Bool Bool Bool Bool Bool Bool Bool formed_access_part
+      formed_factor formed_access formed_add_part formed_arg formed_expr formed_mul_part formed_rel_part formed_member
+      formed_sum formed_term x;
+  depth_is = λ x. fold-roll-SumExpr ℕ ℕ ℕ ℕ ℕ ℕ ℕ ℕ ℕ ℕ ℕ depth_of_access_part depth_of_factor depth_of_access
+      depth_of_add_part depth_of_arg depth_of_expr depth_of_mul_part depth_of_rel_part depth_of_member depth_of_sum
+      depth_of_term x;
 }
 
 abbrev pub term_formed : TermLayer → Bool
@@ -264,11 +317,16 @@ abbrev pub term_levels : TermLayer → ℕ
 term_levels x =
     depth_of_term (map-Term AccessPart Factor Access AddPart Arg Expr MulPart RelPart SetMember SumExpr Term
     ℕ ℕ ℕ ℕ ℕ ℕ ℕ ℕ ℕ ℕ ℕ
-    access_part_depth factor_depth access_depth add_part_depth arg_depth expr_depth mul_part_depth rel_part_depth member_depth sum_depth term_depth x)
+    access_part_depth factor_depth access_depth add_part_depth arg_depth expr_depth mul_part_depth rel_part_depth
+    member_depth sum_depth term_depth x)
 
 pub term_layer : Layer term_is_formed term_depth roll-Term term_formed term_levels
 unfolding access_part_is_formed factor_is_formed access_is_formed add_part_is_formed arg_is_formed expr_is_formed mul_part_is_formed rel_part_is_formed member_is_formed sum_is_formed term_is_formed access_part_depth factor_depth access_depth add_part_depth arg_depth expr_depth mul_part_depth rel_part_depth member_depth sum_depth term_depth
 term_layer = record {
-  formed_is = λ x. fold-roll-Term Bool Bool Bool Bool Bool Bool Bool Bool Bool Bool Bool formed_access_part formed_factor formed_access formed_add_part formed_arg formed_expr formed_mul_part formed_rel_part formed_member formed_sum formed_term x;
-  depth_is = λ x. fold-roll-Term ℕ ℕ ℕ ℕ ℕ ℕ ℕ ℕ ℕ ℕ ℕ depth_of_access_part depth_of_factor depth_of_access depth_of_add_part depth_of_arg depth_of_expr depth_of_mul_part depth_of_rel_part depth_of_member depth_of_sum depth_of_term x;
+  formed_is = λ x. fold-roll-Term Bool Bool Bool Bool Bool Bool Bool Bool Bool Bool Bool formed_access_part
+      formed_factor formed_access formed_add_part formed_arg formed_expr formed_mul_part formed_rel_part formed_member
+      formed_sum formed_term x;
+  depth_is = λ x. fold-roll-Term ℕ ℕ ℕ ℕ ℕ ℕ ℕ ℕ ℕ ℕ ℕ depth_of_access_part depth_of_factor depth_of_access
+      depth_of_add_part depth_of_arg depth_of_expr depth_of_mul_part depth_of_rel_part depth_of_member depth_of_sum
+      depth_of_term x;
 }

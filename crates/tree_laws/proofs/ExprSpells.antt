@@ -40,7 +40,8 @@ use Rattle.tree_laws.proofs.Spells.{Spelling, whole, done, left, right, after, i
 -- ---- accesses, arguments, sets and factors, where it holds of inner expressions
 
 module _ (d : ℕ) (E : Form Expr) (inner : Spelling E expr_is_formed expr_depth d) where
-  part-layer : (x : AccessPartLayer) → Fits access_part_is_formed access_part_depth d (roll-AccessPart x) → Spelled (part_form E) (roll-AccessPart x) false
+  part-layer : (x : AccessPartLayer) → Fits access_part_is_formed access_part_depth d (roll-AccessPart x)
+      → Spelled (part_form E) (roll-AccessPart x) false
   part-layer (AccessPart-F.Index found) h =
       let (e, n) = opened access_part_layer (AccessPart-F.Index found) h in
       left (sign signs.LEFT refl (after (list signs.COMMA refl inner found (record { is_formed = e; levels = n }))
@@ -53,23 +54,29 @@ module _ (d : ℕ) (E : Form Expr) (inner : Spelling E expr_is_formed expr_depth
   part-spelled : Spelling (part_form E) access_part_is_formed access_part_depth d
   part-spelled = whole roll-AccessPart out-AccessPart roll-out-AccessPart part-layer
 
-  access-layer : (x : AccessLayer) → Fits access_is_formed access_depth (suc d) (roll-Access x) → Spelled (access_form E) (roll-Access x) false
+  access-layer : (x : AccessLayer) → Fits access_is_formed access_depth (suc d) (roll-Access x)
+      → Spelled (access_form E) (roll-Access x) false
   access-layer x h =
       let (e, n) = opened access_layer x h in
       let (name, parts) = and-parts _ _ e in
-      after (identifier x.ident name) (after (items part-spelled x.parts (record { is_formed = parts; levels = omega (arith, n) })) (done refl))
+      after (identifier x.ident name)
+      (after (items part-spelled x.parts (record { is_formed = parts; levels = omega (arith, n) })) (done refl))
 
   pub access-spelled : Spelling (access_form E) access_is_formed access_depth (suc d)
   access-spelled = whole roll-Access out-Access roll-out-Access access-layer
 
-  arg-layer : (e : Expr) (width : Option Expr) → Fits arg_is_formed arg_depth d (form.make_arg e width) → Spelled (arg_form E) (form.make_arg e width) false
+  arg-layer : (e : Expr) (width : Option Expr) → Fits arg_is_formed arg_depth d (form.make_arg e width)
+      → Spelled (arg_form E) (form.make_arg e width) false
   arg-layer e None h =
       let (is, n) = opened arg_layer (record { value = e; width = None }) h in
-      after (inner e (record { is_formed = (and-parts _ _ is).0; levels = omega (arith, n) })) (after (right (done refl)) (done refl))
+      after (inner e (record { is_formed = (and-parts _ _ is).0; levels = omega (arith, n) }))
+      (after (right (done refl)) (done refl))
   arg-layer e (Some x) h =
       let (is, n) = opened arg_layer (record { value = e; width = Some x }) h in
       after (inner e (record { is_formed = (and-parts _ _ is).0; levels = omega (arith, n) }))
-      (after (left (sign signs.COLON refl (after (inner x (record { is_formed = (and-parts _ _ is).1; levels = omega (arith, n) })) (done refl)))) (done refl))
+      (after (left (sign signs.COLON refl
+      (after (inner x (record { is_formed = (and-parts _ _ is).1; levels = omega (arith, n) })) (done refl))))
+      (done refl))
 
   pub arg-spelled : Spelling (arg_form E) arg_is_formed arg_depth d
   arg-spelled = whole roll-Arg out-Arg roll-out-Arg (λ x h. arg-layer x.value x.width h)
@@ -79,28 +86,36 @@ module _ (d : ℕ) (E : Form Expr) (inner : Spelling E expr_is_formed expr_depth
 
   pub args-spelled : (args : List Arg) → AllFit arg_is_formed arg_depth d args → Spelled (args_form E) args false
   args-spelled [] h = right (done refl)
-  args-spelled (x ∷ xs) h = left (sign signs.OPEN refl (args-in-spelled (x ∷ xs) (record { is_formed = h.is_formed; levels = h.levels })))
+  args-spelled (x ∷ xs) h =
+      left (sign signs.OPEN refl (args-in-spelled (x ∷ xs) (record { is_formed = h.is_formed; levels = h.levels })))
 
-  member-layer : (e : Expr) (last : Option Expr) → Fits member_is_formed member_depth d (form.make_member e last) → Spelled (member_form E) (form.make_member e last) false
+  member-layer : (e : Expr) (last : Option Expr) → Fits member_is_formed member_depth d (form.make_member e last)
+      → Spelled (member_form E) (form.make_member e last) false
   member-layer e None h =
       let (is, n) = opened member_layer (record { first = e; last = None }) h in
-      after (inner e (record { is_formed = (and-parts _ _ is).0; levels = omega (arith, n) })) (after (right (done refl)) (done refl))
+      after (inner e (record { is_formed = (and-parts _ _ is).0; levels = omega (arith, n) }))
+      (after (right (done refl)) (done refl))
   member-layer e (Some x) h =
       let (is, n) = opened member_layer (record { first = e; last = Some x }) h in
       after (inner e (record { is_formed = (and-parts _ _ is).0; levels = omega (arith, n) }))
-      (after (left (sign signs.RANGE refl (after (inner x (record { is_formed = (and-parts _ _ is).1; levels = omega (arith, n) })) (done refl)))) (done refl))
+      (after (left (sign signs.RANGE refl
+      (after (inner x (record { is_formed = (and-parts _ _ is).1; levels = omega (arith, n) })) (done refl))))
+      (done refl))
 
   member-spelled : Spelling (member_form E) member_is_formed member_depth d
   member-spelled = whole roll-SetMember out-SetMember roll-out-SetMember (λ x h. member-layer x.first x.last h)
 
-  members-spelled : (found : List SetMember) → AllFit member_is_formed member_depth d found → Spelled (members_in E) (roll-Factor (Factor-F.Members found)) false
+  members-spelled : (found : List SetMember) → AllFit member_is_formed member_depth d found
+      → Spelled (members_in E) (roll-Factor (Factor-F.Members found)) false
   members-spelled [] h = left (sign signs.RIGHT refl (done (rolls-Members [])))
   members-spelled (x ∷ xs) h =
-      right (after (list signs.COMMA refl member-spelled (x ∷ xs) (record { is_formed = h.is_formed; levels = h.levels }))
+      right (after (list signs.COMMA refl member-spelled (x ∷ xs)
+      (record { is_formed = h.is_formed; levels = h.levels }))
       (sign signs.RIGHT refl (done (rolls-Members (x ∷ xs)))))
 
   module _ (N : Form Factor) (operand : Spelling N factor_is_formed factor_depth d) where
-    factor-layer : (x : FactorLayer) → Fits factor_is_formed factor_depth (suc d) (roll-Factor x) → Spelled (factor_form E N) (roll-Factor x) false
+    factor-layer : (x : FactorLayer) → Fits factor_is_formed factor_depth (suc d) (roll-Factor x)
+        → Spelled (factor_form E N) (roll-Factor x) false
     factor-layer (Factor-F.Number n) h =
         let (e, m) = opened factor_layer (Factor-F.Number n) h in
         left (after (number n e) (done (rolls-Number n)))
@@ -112,17 +127,21 @@ module _ (d : ℕ) (E : Form Expr) (inner : Spelling E expr_is_formed expr_depth
         let (e, m) = opened factor_layer (Factor-F.Call x args) h in
         let (name, each) = and-parts _ _ e in
         right (right (right (left (left (after (identifier x name) (sign signs.OPEN refl
-        (after (args-in-spelled args (record { is_formed = each; levels = omega (arith, m) })) (done (rolls-Call x args)))))))))
+        (after (args-in-spelled args (record { is_formed = each; levels = omega (arith, m) }))
+        (done (rolls-Call x args)))))))))
     factor-layer (Factor-F.Access a) h =
         let (e, m) = opened factor_layer (Factor-F.Access a) h in
-        right (right (right (left (right (after (access-spelled a (record { is_formed = e; levels = m })) (done (rolls-Access a)))))))
+        right (right (right (left
+        (right (after (access-spelled a (record { is_formed = e; levels = m })) (done (rolls-Access a)))))))
     factor-layer (Factor-F.Members found) h =
         let (e, m) = opened factor_layer (Factor-F.Members found) h in
-        right (right (right (right (left (sign signs.LEFT refl (members-spelled found (record { is_formed = e; levels = omega (arith, m) })))))))
+        right (right (right (right
+        (left (sign signs.LEFT refl (members-spelled found (record { is_formed = e; levels = omega (arith, m) })))))))
     factor-layer (Factor-F.Paren x) h =
         let (e, m) = opened factor_layer (Factor-F.Paren x) h in
         right (right (right (right (right (left (sign signs.OPEN refl
-        (after (inner x (record { is_formed = e; levels = omega (arith, m) })) (sign signs.CLOSE refl (done (rolls-Paren x))))))))))
+        (after (inner x (record { is_formed = e; levels = omega (arith, m) }))
+        (sign signs.CLOSE refl (done (rolls-Paren x))))))))))
     factor-layer (Factor-F.Not x) h =
         let (e, m) = opened factor_layer (Factor-F.Not x) h in
         right (right (right (right (right (right (left (word words.NOT refl
@@ -159,7 +178,8 @@ sign-spelled prefix.Plus = left (sign_operator signs.PLUS refl refl)
 sign-spelled prefix.Minus = left (sign_operator signs.MINUS refl refl)
 
 module _ (d : ℕ) (F : Form Factor) (inner : Spelling F factor_is_formed factor_depth d) where
-  mul-layer : (x : MulPartLayer) → Fits mul_part_is_formed mul_part_depth d (roll-MulPart x) → Spelled (mul_form F) (roll-MulPart x) false
+  mul-layer : (x : MulPartLayer) → Fits mul_part_is_formed mul_part_depth d (roll-MulPart x)
+      → Spelled (mul_form F) (roll-MulPart x) false
   mul-layer x h =
       let (e, n) = opened mul_part_layer x h in
       after (mul-op x.op) (after (inner x.right (record { is_formed = e; levels = n })) (done refl))
@@ -167,16 +187,19 @@ module _ (d : ℕ) (F : Form Factor) (inner : Spelling F factor_is_formed factor
   mul-spelled : Spelling (mul_form F) mul_part_is_formed mul_part_depth d
   mul-spelled = whole roll-MulPart out-MulPart roll-out-MulPart mul-layer
 
-  term-layer : (x : TermLayer) → Fits term_is_formed term_depth d (roll-Term x) → Spelled (term_form F) (roll-Term x) false
+  term-layer : (x : TermLayer) → Fits term_is_formed term_depth d (roll-Term x)
+      → Spelled (term_form F) (roll-Term x) false
   term-layer x h =
       let (e, n) = opened term_layer x h in
       after (inner x.first (record { is_formed = (and-parts _ _ e).0; levels = omega (arith, n) }))
-      (after (items mul-spelled x.rest (record { is_formed = (and-parts _ _ e).1; levels = omega (arith, n) })) (done refl))
+      (after (items mul-spelled x.rest (record { is_formed = (and-parts _ _ e).1; levels = omega (arith, n) }))
+      (done refl))
 
   term-spelled : Spelling (term_form F) term_is_formed term_depth d
   term-spelled = whole roll-Term out-Term roll-out-Term term-layer
 
-  add-layer : (x : AddPartLayer) → Fits add_part_is_formed add_part_depth d (roll-AddPart x) → Spelled (add_form F) (roll-AddPart x) false
+  add-layer : (x : AddPartLayer) → Fits add_part_is_formed add_part_depth d (roll-AddPart x)
+      → Spelled (add_form F) (roll-AddPart x) false
   add-layer x h =
       let (e, n) = opened add_part_layer x h in
       after (add-op x.op) (after (term-spelled x.right (record { is_formed = e; levels = n })) (done refl))
@@ -184,17 +207,20 @@ module _ (d : ℕ) (F : Form Factor) (inner : Spelling F factor_is_formed factor
   add-spelled : Spelling (add_form F) add_part_is_formed add_part_depth d
   add-spelled = whole roll-AddPart out-AddPart roll-out-AddPart add-layer
 
-  sum-layer : (x : SumExprLayer) → Fits sum_is_formed sum_depth d (roll-SumExpr x) → Spelled (sum_form F) (roll-SumExpr x) false
+  sum-layer : (x : SumExprLayer) → Fits sum_is_formed sum_depth d (roll-SumExpr x)
+      → Spelled (sum_form F) (roll-SumExpr x) false
   sum-layer x h =
       let (e, n) = opened sum_layer x h in
       after (sign-spelled x.prefix)
       (after (term-spelled x.first (record { is_formed = (and-parts _ _ e).0; levels = omega (arith, n) }))
-      (after (items add-spelled x.rest (record { is_formed = (and-parts _ _ e).1; levels = omega (arith, n) })) (done refl)))
+      (after (items add-spelled x.rest (record { is_formed = (and-parts _ _ e).1; levels = omega (arith, n) }))
+      (done refl)))
 
   sum-spelled : Spelling (sum_form F) sum_is_formed sum_depth d
   sum-spelled = whole roll-SumExpr out-SumExpr roll-out-SumExpr sum-layer
 
-  rel-layer : (x : RelPartLayer) → Fits rel_part_is_formed rel_part_depth d (roll-RelPart x) → Spelled (rel_form F) (Some (roll-RelPart x)) false
+  rel-layer : (x : RelPartLayer) → Fits rel_part_is_formed rel_part_depth d (roll-RelPart x)
+      → Spelled (rel_form F) (Some (roll-RelPart x)) false
   rel-layer x h =
       let (e, n) = opened rel_part_layer x h in
       left (after (rel-op x.op) (after (sum-spelled x.right (record { is_formed = e; levels = n })) (done refl)))
@@ -202,12 +228,15 @@ module _ (d : ℕ) (F : Form Factor) (inner : Spelling F factor_is_formed factor
   rel-spelled : (r : RelPart) → Fits rel_part_is_formed rel_part_depth d r → Spelled (rel_form F) (Some r) false
   rel-spelled r h =
       subst (λ s. Spelled (rel_form F) (Some s) false) (roll-out-RelPart r)
-      (rel-layer (out-RelPart r) (subst (λ s. Fits rel_part_is_formed rel_part_depth d s) (sym (roll-out-RelPart r)) h))
+      (rel-layer (out-RelPart r)
+      (subst (λ s. Fits rel_part_is_formed rel_part_depth d s) (sym (roll-out-RelPart r)) h))
 
-  expr-layer : (x : SumExpr) (rest : Option RelPart) → Fits expr_is_formed expr_depth d (form.make_expr x rest) → Spelled (expr_form F) (form.make_expr x rest) false
+  expr-layer : (x : SumExpr) (rest : Option RelPart) → Fits expr_is_formed expr_depth d (form.make_expr x rest)
+      → Spelled (expr_form F) (form.make_expr x rest) false
   expr-layer x None h =
       let (e, n) = opened expr_layer (record { first = x; rest = None }) h in
-      after (sum-spelled x (record { is_formed = (and-parts _ _ e).0; levels = omega (arith, n) })) (after (right (done refl)) (done refl))
+      after (sum-spelled x (record { is_formed = (and-parts _ _ e).0; levels = omega (arith, n) }))
+      (after (right (done refl)) (done refl))
   expr-layer x (Some r) h =
       let (e, n) = opened expr_layer (record { first = x; rest = Some r }) h in
       after (sum-spelled x (record { is_formed = (and-parts _ _ e).0; levels = omega (arith, n) }))
@@ -249,7 +278,9 @@ mutual
 
   pub expr-spelled : (d : ℕ) → Spelling (expr_at d) expr_is_formed expr_depth d
   expr-spelled zero = λ e h. absurd (omega (arith, expr-some e, h.levels))
-  expr-spelled (suc d) = expr-spelled_in (suc d) (factor_form (expr_at d) (factor_at d)) (factor-spelled_in d (expr_at d) (expr-spelled d) (factor_at d) (factor-spelled d))
+  expr-spelled (suc d) =
+      expr-spelled_in (suc d) (factor_form (expr_at d) (factor_at d))
+      (factor-spelled_in d (expr_at d) (expr-spelled d) (factor_at d) (factor-spelled d))
 
   pub factor-spelled : (d : ℕ) → Spelling (factor_at d) factor_is_formed factor_depth d
   factor-spelled zero = λ x h. absurd (omega (arith, factor-some x, h.levels))

@@ -38,7 +38,8 @@ program_fits p = ProgramFits LEVELS p
 
 program-same : (p : Tree) → program_fits (unnamed_program p) → program_fits p
 program-same p f = record {
-  is_formed = subst (λ b. (is_identifier p.ident && all_formed (map is_identifier p.files) && b) ≡ true) (block-formed p.block) f.is_formed;
+  is_formed = subst (λ b. (is_identifier p.ident && all_formed (map is_identifier p.files) && b) ≡ true)
+      (block-formed p.block) f.is_formed;
   is_paired = sym (block-paired p.block) ∙ f.is_paired;
   levels = subst (λ n. n ≤ LEVELS) (block-levels p.block) f.levels;
 }
@@ -48,7 +49,8 @@ programs p = (
   λ e.
       (let (f, n) = and-parts _ _ e in
       let (g, q) = and-parts _ _ f in
-      let r = program-spelled 63 p (record { is_formed = g; is_paired = q; levels = leb-true (tree_levels p) LEVELS n }) in
+      let r =
+      program-spelled 63 p (record { is_formed = g; is_paired = q; levels = leb-true (tree_levels p) LEVELS n }) in
       record { tokens = r.tokens; holds = r.spell; each = r.each }),
   λ h.
       (let f = program-same p ((program-gives 63).given (unnamed_program p) _ h.tokens h.holds h.each) in
@@ -57,11 +59,14 @@ programs p = (
 
 -- ---- statements
 
-stmt-whole : (x : Stmt) → Fits stmt_is_whole stmt_depth LEVELS (unnamed_stmt x) → Fits stmt_is_whole stmt_depth LEVELS x
+stmt-whole : (x : Stmt) → Fits stmt_is_whole stmt_depth LEVELS (unnamed_stmt x)
+    → Fits stmt_is_whole stmt_depth LEVELS x
 stmt-whole x f = record {
   is_formed =
-      (let (p, q) = and-parts (stmt_is_formed (unnamed_stmt x)) (stmt_ending (unnamed_stmt x)).is_paired f.is_formed in
-      and-true (stmt_is_formed x) (stmt_ending x).is_paired (sym (stmt-formed x) ∙ p) (sym (ap (λ (e : Ending). e.is_paired) (stmt-ends x)) ∙ q));
+      (let (p, q) = and-parts (stmt_is_formed (unnamed_stmt x))
+      (stmt_ending (unnamed_stmt x)).is_paired f.is_formed in
+      and-true (stmt_is_formed x) (stmt_ending x).is_paired (sym (stmt-formed x) ∙ p)
+      (sym (ap (λ (e : Ending). e.is_paired) (stmt-ends x)) ∙ q));
   levels = subst (λ n. n ≤ LEVELS) (stmt-levels x) f.levels;
 }
 
@@ -86,7 +91,8 @@ declarations d = (
       record { tokens = r.tokens; holds = r.spell; each = r.each }),
   λ h.
       (let f = (decl-gives LEVELS).given (unnamed_decl d) _ h.tokens h.holds h.each in
-      and-true (decl_is_formed d.kind) (leb (decl_depth d.kind) LEVELS) f.is_formed (le-leb (decl_depth d.kind) LEVELS f.levels)),
+      and-true (decl_is_formed d.kind) (leb (decl_depth d.kind) LEVELS) f.is_formed
+      (le-leb (decl_depth d.kind) LEVELS f.levels)),
 )
 
 pub headings : (h : Heading) → Decides (heading_is_formed h) (IsSpelledHeading h)
@@ -105,7 +111,8 @@ routines r = (
       record { tokens = s.tokens; holds = s.spell; each = s.each }),
   λ h.
       (let f = (routine-gives LEVELS).given (unnamed_routine r) _ h.tokens h.holds h.each in
-      let (p, q) = and-parts (routine_is_formed (unnamed_routine r)) (routine_is_paired (unnamed_routine r)) f.is_formed in
+      let (p, q) =
+      and-parts (routine_is_formed (unnamed_routine r)) (routine_is_paired (unnamed_routine r)) f.is_formed in
       and-true (routine_is_whole r) (leb (routine_depth r) LEVELS)
       (and-true (routine_is_formed r) (routine_is_paired r) (sym (routine-formed r) ∙ p) (sym (routine-paired r) ∙ q))
       (le-leb (routine_depth r) LEVELS (subst (λ n. n ≤ LEVELS) (routine-levels r) f.levels))),

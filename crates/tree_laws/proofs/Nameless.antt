@@ -32,7 +32,8 @@ use Rattle.tree_laws.proofs.Folds.{Agree, agreed, AgreeOnBlocks, agreed_block}
 -- ---- statements: what is folded by steps of which none reads a name
 
 -- each part, and what is made of it
-parts-are : {A B : Type 0} (f : A → B) (ys : List ((a : A) × (b : B) × (f a ≡ b))) → map f (map (λ e. e.0) ys) ≡ map (λ e. e.1) ys
+parts-are : {A B : Type 0} (f : A → B) (ys : List ((a : A) × (b : B) × (f a ≡ b)))
+    → map f (map (λ e. e.0) ys) ≡ map (λ e. e.1) ys
 parts-are f [] = refl
 parts-are f (y ∷ ys) = rw (y.2, parts-are f ys) refl
 
@@ -65,7 +66,8 @@ module _ {K A S : Type 0} (kind : StmtKind-F K A S → K) (arm : Arm-F K A S →
   StmtPart = (s : Stmt) × (t : S) × StmtIs s t
 
   kind-is : (y : StmtKind-F KindPart ArmPart StmtPart)
-      → kind (map-StmtKind StmtKind Arm Stmt K A S of_kind of_arm of_stmt (map-StmtKind KindPart ArmPart StmtPart StmtKind Arm Stmt (λ e. e.0) (λ e. e.0) (λ e. e.0) y))
+      → kind (map-StmtKind StmtKind Arm Stmt K A S of_kind of_arm of_stmt
+      (map-StmtKind KindPart ArmPart StmtPart StmtKind Arm Stmt (λ e. e.0) (λ e. e.0) (λ e. e.0) y))
       ≡ kind (map-StmtKind KindPart ArmPart StmtPart K A S (λ e. e.1) (λ e. e.1) (λ e. e.1) y)
   kind-is StmtKind-F.Empty = refl
   kind-is (StmtKind-F.Assign a e) = refl
@@ -80,11 +82,15 @@ module _ {K A S : Type 0} (kind : StmtKind-F K A S → K) (arm : Arm-F K A S →
   kind-is (StmtKind-F.For x first down last y) = rw y.2 refl
   kind-is (StmtKind-F.With records y) = rw y.2 refl
 
-  module _ (nameless : (name other : Name) (label : Option ℕ) (k : K) → stmt (record { name = name; label = label; kind = k }) ≡ stmt (record { name = other; label = label; kind = k })) where
+  module _
+      (nameless : (name other : Name) (label : Option ℕ) (k : K)
+      → stmt (record { name = name; label = label; kind = k }) ≡ stmt
+      (record { name = other; label = label; kind = k })) where
     same : Agree roll-StmtKind roll-Arm without.in_stmt kind arm stmt KindIs ArmIs StmtIs
     same = record {
       kinds = λ y. fold-roll-StmtKind K A S kind arm stmt _ ∙ kind-is y;
-      arms = λ y. fold-roll-Arm K A S kind arm stmt _ ∙ ap (λ b. arm (record { constants = y.constants; body = b })) y.body.2;
+      arms = λ y. fold-roll-Arm K A S kind arm stmt _
+          ∙ ap (λ b. arm (record { constants = y.constants; body = b })) y.body.2;
       stmts = λ y.
           fold-roll-Stmt K A S kind arm stmt _
           ∙ ap (λ k. stmt (record { name = no_name; label = y.label; kind = k })) y.kind.2
@@ -117,16 +123,22 @@ module _ {B R : Type 0} (block : Block-F B R → B) (routine : Routine-F B R →
   -- none reads the names of declarations, of the statements of a body, and of a routine
   pub record ReadsNoName : Type 0 where
     pub blocks : (labels : Option Decl) (consts types vars : List Decl) (routines : List R) (body : Stmt)
-        → block (block_layer (option_map unnamed_decl labels) (map unnamed_decl consts) (map unnamed_decl types) (map unnamed_decl vars) routines (unnamed_stmt body))
+        → block (block_layer (option_map unnamed_decl labels) (map unnamed_decl consts) (map unnamed_decl types)
+        (map unnamed_decl vars) routines (unnamed_stmt body))
         ≡ block (block_layer labels consts types vars routines body)
     pub routines : (name other : Name) (heading : Heading) (b : Option B)
-        → routine (record { name = name; heading = heading; block = b }) ≡ routine (record { name = other; heading = heading; block = b })
+        → routine (record { name = name; heading = heading; block = b }) ≡ routine
+        (record { name = other; heading = heading; block = b })
 
   module _ (nameless : ReadsNoName) where
     routine-same : (name : Name) (heading : Heading) (block_of : Option ((b : Block) × (c : B) × BlockIs b c))
-        → RoutineIs (without.in_routine (map-Routine _ ((r : Routine) × (s : R) × RoutineIs r s) Block Routine (λ e. e.0) (λ e. e.0) (record { name = name; heading = heading; block = block_of })))
-        (routine (map-Routine _ ((r : Routine) × (s : R) × RoutineIs r s) B R (λ e. e.1) (λ e. e.1) (record { name = name; heading = heading; block = block_of })))
-    routine-same name heading None = fold-roll-Routine B R block routine _ ∙ nameless.routines no_name name heading None
+        → RoutineIs (without.in_routine
+        (map-Routine _ ((r : Routine) × (s : R) × RoutineIs r s) Block Routine (λ e. e.0) (λ e. e.0)
+        (record { name = name; heading = heading; block = block_of })))
+        (routine (map-Routine _ ((r : Routine) × (s : R) × RoutineIs r s) B R (λ e. e.1) (λ e. e.1)
+        (record { name = name; heading = heading; block = block_of })))
+    routine-same name heading None =
+        fold-roll-Routine B R block routine _ ∙ nameless.routines no_name name heading None
     routine-same name heading (Some y) =
         fold-roll-Routine B R block routine _
         ∙ ap (λ b. routine (record { name = no_name; heading = heading; block = Some b })) y.2
@@ -136,7 +148,8 @@ module _ {B R : Type 0} (block : Block-F B R → B) (routine : Routine-F B R →
     same_blocks = record {
       blocks = λ y.
           fold-roll-Block B R block routine _
-          ∙ ap (λ rs. block (block_layer (option_map unnamed_decl y.labels) (map unnamed_decl y.consts) (map unnamed_decl y.types) (map unnamed_decl y.vars) rs (unnamed_stmt y.body)))
+          ∙ ap (λ rs. block (block_layer (option_map unnamed_decl y.labels) (map unnamed_decl y.consts)
+          (map unnamed_decl y.types) (map unnamed_decl y.vars) rs (unnamed_stmt y.body)))
           (parts-are of_routine y.routines)
           ∙ nameless.blocks y.labels y.consts y.types y.vars (map (λ e. e.1) y.routines) y.body;
       routines = λ y. routine-same y.name y.heading y.block;
@@ -147,16 +160,19 @@ module _ {B R : Type 0} (block : Block-F B R → B) (routine : Routine-F B R →
     block-nameless b = agreed_block without.in_block without.in_routine block routine BlockIs RoutineIs same_blocks b
 
     routine-at : (name : Name) (heading : Heading) (o : Option Block)
-        → of_routine (make_routine heading (option_map unnamed_block o)) ≡ of_routine (roll-Routine (record { name = name; heading = heading; block = o }))
+        → of_routine (make_routine heading (option_map unnamed_block o)) ≡ of_routine
+        (roll-Routine (record { name = name; heading = heading; block = o }))
     routine-at name heading None =
-        fold-roll-Routine B R block routine _ ∙ nameless.routines no_name name heading None ∙ sym (fold-roll-Routine B R block routine _)
+        fold-roll-Routine B R block routine _ ∙ nameless.routines no_name name heading None
+        ∙ sym (fold-roll-Routine B R block routine _)
     routine-at name heading (Some b) =
         fold-roll-Routine B R block routine _
         ∙ ap (λ c. routine (record { name = no_name; heading = heading; block = Some c })) (block-nameless b)
         ∙ nameless.routines no_name name heading (Some (of_block b))
         ∙ sym (fold-roll-Routine B R block routine _)
 
-    pub routine-nameless : (r : Routine) → fold-Routine B R block routine (unnamed_routine r) ≡ fold-Routine B R block routine r
+    pub routine-nameless : (r : Routine)
+        → fold-Routine B R block routine (unnamed_routine r) ≡ fold-Routine B R block routine r
     routine-nameless r =
         let x = out-Routine r in
         ap (λ s. of_routine (unnamed_routine s)) (sym (roll-out-Routine r))
@@ -180,7 +196,8 @@ stmt-ends x = stmt-nameless ending_of_kind ending_of_arm ending_of_stmt (λ n m 
 
 -- ---- the same of a block and a program
 
-part-formed : (formed : DeclKind → Bool) (ds : List Decl) → part_is_formed formed (map unnamed_decl ds) ≡ part_is_formed formed ds
+part-formed : (formed : DeclKind → Bool) (ds : List Decl)
+    → part_is_formed formed (map unnamed_decl ds) ≡ part_is_formed formed ds
 part-formed formed ds = ap all_formed (map-map (λ (d : Decl). formed d.kind) unnamed_decl ds)
 
 decls-levels : (ds : List Decl) → decls_depth (map unnamed_decl ds) ≡ decls_depth ds
@@ -191,19 +208,22 @@ labels-formed None = refl
 labels-formed (Some d) = refl
 
 compound-same : (x : KindLayer) → is_compound (out-StmtKind (unnamed_kind (roll-StmtKind x))) ≡ is_compound x
-compound-same x = ap (λ k. is_compound (out-StmtKind k)) (kind-unnamed x) ∙ ap is_compound (out-roll-StmtKind _) ∙ go x where
-  go : (x : KindLayer) → is_compound (map-StmtKind StmtKind Arm Stmt StmtKind Arm Stmt unnamed_kind unnamed_arm unnamed_stmt x) ≡ is_compound x
-  go StmtKind-F.Empty = refl
-  go (StmtKind-F.Assign a e) = refl
-  go (StmtKind-F.Call y args) = refl
-  go (StmtKind-F.Goto n) = refl
-  go (StmtKind-F.Compound ys) = refl
-  go (StmtKind-F.If e y z) = refl
-  go (StmtKind-F.Case e ys) = refl
-  go (StmtKind-F.While e y) = refl
-  go (StmtKind-F.Repeat ys e) = refl
-  go (StmtKind-F.For v first down last y) = refl
-  go (StmtKind-F.With records y) = refl
+compound-same x =
+    ap (λ k. is_compound (out-StmtKind k)) (kind-unnamed x) ∙ ap is_compound (out-roll-StmtKind _) ∙ go x where
+      go : (x : KindLayer)
+          → is_compound (map-StmtKind StmtKind Arm Stmt StmtKind Arm Stmt unnamed_kind unnamed_arm unnamed_stmt x) ≡
+          is_compound x
+      go StmtKind-F.Empty = refl
+      go (StmtKind-F.Assign a e) = refl
+      go (StmtKind-F.Call y args) = refl
+      go (StmtKind-F.Goto n) = refl
+      go (StmtKind-F.Compound ys) = refl
+      go (StmtKind-F.If e y z) = refl
+      go (StmtKind-F.Case e ys) = refl
+      go (StmtKind-F.While e y) = refl
+      go (StmtKind-F.Repeat ys e) = refl
+      go (StmtKind-F.For v first down last y) = refl
+      go (StmtKind-F.With records y) = refl
 
 abbrev is_body_layer : StmtLayer → Bool
 is_body_layer x = is_none x.label && is_compound (out-StmtKind x.kind)
@@ -211,28 +231,40 @@ is_body_layer x = is_none x.label && is_compound (out-StmtKind x.kind)
 body-same : (x : Stmt) → is_body (unnamed_stmt x) ≡ is_body x
 body-same x =
     let y = out-Stmt x in
-    let is : unnamed_stmt x ≡ make_stmt y.label (unnamed_kind y.kind) = ap unnamed_stmt (sym (roll-out-Stmt x)) ∙ stmt-unnamed y in
+    let is : unnamed_stmt x ≡ make_stmt y.label (unnamed_kind y.kind) =
+    ap unnamed_stmt (sym (roll-out-Stmt x)) ∙ stmt-unnamed y in
     ap is_body is
     ∙ ap is_body_layer (out-roll-Stmt (record { name = no_name; label = y.label; kind = unnamed_kind y.kind }))
     ∙ ap (λ b. is_none y.label && b)
-    (ap (λ k. is_compound (out-StmtKind (unnamed_kind k))) (sym (roll-out-StmtKind y.kind)) ∙ compound-same (out-StmtKind y.kind))
+    (ap (λ k. is_compound (out-StmtKind (unnamed_kind k))) (sym (roll-out-StmtKind y.kind))
+    ∙ compound-same (out-StmtKind y.kind))
 
 formed_reads : ReadsNoName formed_block formed_routine
 formed_reads = record {
   blocks = λ labels consts types vars routines body.
-      rw (labels-formed labels, part-formed const_is_formed consts, part-formed typedef_is_formed types, part-formed vars_are_formed vars, body-same body, stmt-formed body) refl;
+      rw (
+        labels-formed labels,
+        part-formed const_is_formed consts,
+        part-formed typedef_is_formed types,
+        part-formed
+            vars_are_formed vars,
+        body-same body,
+        stmt-formed body,
+      ) refl;
   routines = λ n m heading o. refl;
 }
 
 depth_reads : ReadsNoName depth_of_block depth_of_routine
 depth_reads = record {
-  blocks = λ labels consts types vars routines body. rw (decls-levels types, decls-levels vars, stmt-levels body) refl;
+  blocks = λ labels consts types vars routines body. rw
+      (decls-levels types, decls-levels vars, stmt-levels body) refl;
   routines = λ n m heading o. refl;
 }
 
 paired_reads : ReadsNoName paired_of_block paired_of_routine
 paired_reads = record {
-  blocks = λ labels consts types vars routines body. ap (λ (e : Ending). list_all (λ p. p) routines && e.is_paired) (stmt-ends body);
+  blocks = λ labels consts types vars routines body. ap (λ (e : Ending). list_all (λ p. p) routines && e.is_paired)
+      (stmt-ends body);
   routines = λ n m heading o. refl;
 }
 

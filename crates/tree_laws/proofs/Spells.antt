@@ -24,7 +24,8 @@ left s = record { tokens = s.tokens; spell = inl s.spell; each = s.each }
 pub right : {A : Type 0} {g h : Form A} {a : A} {w : Bool} → Spelled h a w → Spelled (either g h) a w
 right s = record { tokens = s.tokens; spell = inr s.spell; each = s.each }
 
-pub after : {A B : Type 0} {g : Form A} {h : A → Bool → Form B} {a : A} {w : Bool} {b : B} {v : Bool} → Spelled g a w → Spelled (h a w) b v → Spelled (chain g h) b v
+pub after : {A B : Type 0} {g : Form A} {h : A → Bool → Form B} {a : A} {w : Bool} {b : B} {v : Bool} → Spelled g a w
+    → Spelled (h a w) b v → Spelled (chain g h) b v
 after {a = a} {w = w} s r = record {
   tokens = s.tokens ++ r.tokens;
   spell = (a, w, s.tokens, r.tokens, refl, s.spell, r.spell);
@@ -36,7 +37,8 @@ after {a = a} {w = w} s r = record {
 abbrev some_of : {A : Type 0} → A → Option A
 some_of a = Some a
 
-pub single : {A : Type 0} {f : TokenKind → Option A} {a : A} (t : TokenKind) → f t ≡ some_of a → HasLexeme t → Spelled (one f) a false
+pub single : {A : Type 0} {f : TokenKind → Option A} {a : A} (t : TokenKind) → f t ≡ some_of a → HasLexeme t
+    → Spelled (one f) a false
 single t e h = record { tokens = t ∷ []; spell = (t, refl, e, refl); each = (h, tt) }
 
 pub identifier : (x : List ℕ) → is_identifier x ≡ true → Spelled named x false
@@ -57,17 +59,21 @@ below : (k n : ℕ) → ltb k n ≡ true → k < n
 below k n e = grind (arith, nat_tests)
 
 -- the word symbol or the sign with this number, and then the rest
-pub word : {A : Type 0} {g : Form A} {a : A} {w : Bool} (k : ℕ) → ltb k 35 ≡ true → Spelled g a w → Spelled (token (6 * k) g) a w
+pub word : {A : Type 0} {g : Form A} {a : A} {w : Bool} (k : ℕ) → ltb k 35 ≡ true → Spelled g a w
+    → Spelled (token (6 * k) g) a w
 word k e r = after (single (Word k) (class-has (Word k)) (word_lexeme k (below k 35 e))) r
 
-pub sign : {A : Type 0} {g : Form A} {a : A} {w : Bool} (k : ℕ) → ltb k 20 ≡ true → Spelled g a w → Spelled (token (6 * k + 4) g) a w
+pub sign : {A : Type 0} {g : Form A} {a : A} {w : Bool} (k : ℕ) → ltb k 20 ≡ true → Spelled g a w
+    → Spelled (token (6 * k + 4) g) a w
 sign k e r = after (single (Sign k) (class-has (Sign k)) (sign_lexeme k (below k 20 e))) r
 
 -- an operator, by the number of its word symbol or sign
-pub word_operator : {O : Type 0} {f : TokenKind → Option O} {o : O} (k : ℕ) → ltb k 35 ≡ true → f (Word k) ≡ some_of o → Spelled (one f) o false
+pub word_operator : {O : Type 0} {f : TokenKind → Option O} {o : O} (k : ℕ) → ltb k 35 ≡ true
+    → f (Word k) ≡ some_of o → Spelled (one f) o false
 word_operator k e is = single (Word k) is (word_lexeme k (below k 35 e))
 
-pub sign_operator : {O : Type 0} {f : TokenKind → Option O} {o : O} (k : ℕ) → ltb k 20 ≡ true → f (Sign k) ≡ some_of o → Spelled (one f) o false
+pub sign_operator : {O : Type 0} {f : TokenKind → Option O} {o : O} (k : ℕ) → ltb k 20 ≡ true
+    → f (Sign k) ≡ some_of o → Spelled (one f) o false
 sign_operator k e is = single (Sign k) is (sign_lexeme k (below k 20 e))
 
 -- ---- lists
@@ -96,7 +102,8 @@ module _ {A : Type 0} {formed : A → Bool} {depth : A → ℕ} {d : ℕ} where
   no_item f = let e = f.is_formed in cc
 
   module _ {B : Type 0} {view : A → B} where
-    row_of : {g : Form B} → CoversAs g view formed depth d → (xs : List A) → AllFit formed depth d xs → Row g (map view xs)
+    row_of : {g : Form B} → CoversAs g view formed depth d → (xs : List A) → AllFit formed depth d xs
+        → Row g (map view xs)
     row_of inner [] f = record { tokens = []; spell = refl; each = tt }
     row_of {g} inner (a ∷ xs) f =
         let (w, s) = inner a (fit-head f) in
@@ -108,39 +115,46 @@ module _ {A : Type 0} {formed : A → Bool} {depth : A → ℕ} {d : ℕ} where
         }
 
     -- as many as there are
-    pub items_as : {g : Form B} → CoversAs g view formed depth d → (xs : List A) → AllFit formed depth d xs → Spelled (rows g) (map view xs) false
+    pub items_as : {g : Form B} → CoversAs g view formed depth d → (xs : List A) → AllFit formed depth d xs
+        → Spelled (rows g) (map view xs) false
     items_as inner xs f =
         let r = row_of inner xs f in
         record { tokens = r.tokens; spell = (map view xs, refl, r.spell, refl); each = r.each }
 
     -- behind a first one
-    more_items : {g : Form B} → CoversAs g view formed depth d → (b : B) (xs : List A) → AllFit formed depth d xs → Spelled (rows_behind g (b ∷ [])) (b ∷ map view xs) false
+    more_items : {g : Form B} → CoversAs g view formed depth d → (b : B) (xs : List A) → AllFit formed depth d xs
+        → Spelled (rows_behind g (b ∷ [])) (b ∷ map view xs) false
     more_items inner b xs f =
         let r = row_of inner xs f in
         record { tokens = r.tokens; spell = (map view xs, refl, r.spell, refl); each = r.each }
 
-    pub some_items_as : {g : Form B} → CoversAs g view formed depth d → (xs : List A) → SomeFit formed depth d xs → Spelled (some_rows g) (map view xs) false
+    pub some_items_as : {g : Form B} → CoversAs g view formed depth d → (xs : List A) → SomeFit formed depth d xs
+        → Spelled (some_rows g) (map view xs) false
     some_items_as inner [] f = absurd (no_item f)
     some_items_as inner (a ∷ xs) f =
         let (w, s) = inner a (fit-head (some-all (a ∷ xs) f)) in
         after s (more_items inner (view a) xs (fit-tail (some-all (a ∷ xs) f)))
 
-    separated : {g : Form B} (k : ℕ) → ltb k 20 ≡ true → CoversAs g view formed depth d → CoversAs (token (6 * k + 4) g) view formed depth d
+    separated : {g : Form B} (k : ℕ) → ltb k 20 ≡ true → CoversAs g view formed depth d
+        → CoversAs (token (6 * k + 4) g) view formed depth d
     separated k e inner = λ a f. let (w, s) = inner a f in (w, sign k e s)
 
     -- with this sign between
-    pub list_as : {g : Form B} (k : ℕ) → ltb k 20 ≡ true → CoversAs g view formed depth d → (xs : List A) → SomeFit formed depth d xs → Spelled (list_of (6 * k + 4) g) (map view xs) false
+    pub list_as : {g : Form B} (k : ℕ) → ltb k 20 ≡ true → CoversAs g view formed depth d → (xs : List A)
+        → SomeFit formed depth d xs → Spelled (list_of (6 * k + 4) g) (map view xs) false
     list_as k e inner [] f = absurd (no_item f)
     list_as k e inner (a ∷ xs) f =
         let (w, s) = inner a (fit-head (some-all (a ∷ xs) f)) in
         after s (more_items (separated k e inner) (view a) xs (fit-tail (some-all (a ∷ xs) f)))
 
     -- and none behind the last
-    pub ended_as : {g : Form B} (k : ℕ) → ltb k 20 ≡ true → CoversAs g view formed depth d → (xs : List A) → SomeFit formed depth d xs → Spelled (ended_list (6 * k + 4) g) (map view xs) false
+    pub ended_as : {g : Form B} (k : ℕ) → ltb k 20 ≡ true → CoversAs g view formed depth d → (xs : List A)
+        → SomeFit formed depth d xs → Spelled (ended_list (6 * k + 4) g) (map view xs) false
     ended_as k e inner [] f = absurd (no_item f)
     ended_as k e inner (a ∷ xs) f =
         let (w, s) = inner a (fit-head (some-all (a ∷ xs) f)) in
-        after s (after (more_items (separated k e inner) (view a) xs (fit-tail (some-all (a ∷ xs) f))) (right (done refl)))
+        after s (after (more_items (separated k e inner) (view a) xs (fit-tail (some-all (a ∷ xs) f)))
+        (right (done refl)))
 
 -- ---- trees
 
@@ -154,8 +168,10 @@ map-self (a ∷ xs) = ap (λ ys. a ∷ ys) (map-self xs)
 
 module _ {A : Type 0} {g : Form A} {formed : A → Bool} {depth : A → ℕ} {d : ℕ} where
   -- each tree is made of its layer
-  pub whole : {X : Type 0} (roll : X → A) (out : A → X) → ((a : A) → roll (out a) ≡ a) → ((x : X) → Fits formed depth d (roll x) → Spelled g (roll x) false) → Spelling g formed depth d
-  whole roll out is each = λ a f. subst (λ b. Spelled g b false) (is a) (each (out a) (subst (λ b. Fits formed depth d b) (sym (is a)) f))
+  pub whole : {X : Type 0} (roll : X → A) (out : A → X) → ((a : A) → roll (out a) ≡ a)
+      → ((x : X) → Fits formed depth d (roll x) → Spelled g (roll x) false) → Spelling g formed depth d
+  whole roll out is each =
+      λ a f. subst (λ b. Spelled g b false) (is a) (each (out a) (subst (λ b. Fits formed depth d b) (sym (is a)) f))
 
   self : Spelling g formed depth d → CoversAs g (λ a. a) formed depth d
   self s = λ a f. (false, s a f)
@@ -164,11 +180,14 @@ module _ {A : Type 0} {g : Form A} {formed : A → Bool} {depth : A → ℕ} {d 
   pub items : Spelling g formed depth d → (xs : List A) → AllFit formed depth d xs → Spelled (rows g) xs false
   items s xs f = subst (λ ys. Spelled (rows g) ys false) (map-self xs) (items_as (self s) xs f)
 
-  pub list : (k : ℕ) → ltb k 20 ≡ true → Spelling g formed depth d → (xs : List A) → SomeFit formed depth d xs → Spelled (list_of (6 * k + 4) g) xs false
+  pub list : (k : ℕ) → ltb k 20 ≡ true → Spelling g formed depth d → (xs : List A) → SomeFit formed depth d xs
+      → Spelled (list_of (6 * k + 4) g) xs false
   list k e s xs f = subst (λ ys. Spelled (list_of (6 * k + 4) g) ys false) (map-self xs) (list_as k e (self s) xs f)
 
-  pub ended : (k : ℕ) → ltb k 20 ≡ true → Spelling g formed depth d → (xs : List A) → SomeFit formed depth d xs → Spelled (ended_list (6 * k + 4) g) xs false
-  ended k e s xs f = subst (λ ys. Spelled (ended_list (6 * k + 4) g) ys false) (map-self xs) (ended_as k e (self s) xs f)
+  pub ended : (k : ℕ) → ltb k 20 ≡ true → Spelling g formed depth d → (xs : List A) → SomeFit formed depth d xs
+      → Spelled (ended_list (6 * k + 4) g) xs false
+  ended k e s xs f =
+      subst (λ ys. Spelled (ended_list (6 * k + 4) g) ys false) (map-self xs) (ended_as k e (self s) xs f)
 
 -- ---- values without levels of their own
 
@@ -176,7 +195,8 @@ most-none : {A : Type 0} (xs : List A) → most (map no_levels xs) ≤ 0
 most-none [] = omega arith
 most-none (x ∷ xs) = omega (arith, most-none xs)
 
-pub flat_list : {A : Type 0} {formed : A → Bool} {g : Form A} (k : ℕ) → ltb k 20 ≡ true → ((a : A) → formed a ≡ true → Spelled g a false)
+pub flat_list : {A : Type 0} {formed : A → Bool} {g : Form A} (k : ℕ) → ltb k 20 ≡ true
+    → ((a : A) → formed a ≡ true → Spelled g a false)
     → (xs : List A) → some_formed (map formed xs) ≡ true → Spelled (list_of (6 * k + 4) g) xs false
 flat_list {formed = formed} k e r xs is =
     list k e (λ a f. r a f.is_formed) xs (record { is_formed = is; levels = most-none xs })

@@ -32,18 +32,22 @@ pub record StmtGiven (d : ℕ) (x : Stmt) (w : Bool) : Type 0 where
   pub fits : Fits stmt_is_whole stmt_depth d x
   pub flag : w ≡ (stmt_ending x).is_open
 
-given : {d : ℕ} {k : StmtKind} {w : Bool} (x : KindLayer) → roll-StmtKind x ≡ k → kind_formed x ≡ true → (kind_ends x).is_paired ≡ true → kind_levels x ≤ d → w ≡ (kind_ends x).is_open → KindGiven d k w
+given : {d : ℕ} {k : StmtKind} {w : Bool} (x : KindLayer) → roll-StmtKind x ≡ k → kind_formed x ≡ true
+    → (kind_ends x).is_paired ≡ true → kind_levels x ≤ d → w ≡ (kind_ends x).is_open → KindGiven d k w
 given {d} {k} {w} x is e f n flag = record {
   fits = variant kind_layer x is (and-true _ _ e f) n;
   flag = flag ∙ ap (λ (y : Ending). y.is_open) (sym (kind-ending x) ∙ ap kind_ending is);
 }
 
-pub stmt-given : {d : ℕ} (label : Option ℕ) (k : StmtKind) (w : Bool) → formed_label label ≡ true → KindGiven d k w → StmtGiven d (make_stmt label k) w
+pub stmt-given : {d : ℕ} (label : Option ℕ) (k : StmtKind) (w : Bool) → formed_label label ≡ true → KindGiven d k w
+    → StmtGiven d (make_stmt label k) w
 stmt-given label k w e g =
     let (p, q) = and-parts _ _ g.fits.is_formed in
     record {
-      fits = made stmt_layer (record { name = no_name; label = label; kind = k }) (and-true _ _ (and-true _ _ e p) q) g.fits.levels;
-      flag = g.flag ∙ ap (λ (y : Ending). y.is_open) (sym (stmt-ending (record { name = no_name; label = label; kind = k })));
+      fits = made stmt_layer (record { name = no_name; label = label; kind = k })
+          (and-true _ _ (and-true _ _ e p) q) g.fits.levels;
+      flag = g.flag ∙ ap (λ (y : Ending). y.is_open)
+          (sym (stmt-ending (record { name = no_name; label = label; kind = k })));
     }
 
 -- ---- where it holds of expressions and of inner statements
@@ -66,36 +70,46 @@ module _ (d : ℕ) (E A : Form Expr) (S : Form Stmt)
       let (p, q) = some-parts stmt_is_formed stmt_ending paired xs f.is_formed in
       given (StmtKind-F.Compound xs) (rolls-Compound xs) p q (omega (arith, f.levels)) refl
 
-  pub sequence-gives : {Q : StmtKind → Bool → Type 0} → ((xs : List Stmt) → SomeFit stmt_is_whole stmt_depth d xs → Q (s.Compound xs) false) → Gives (compound_in E A S Sequence) Q
+  pub sequence-gives : {Q : StmtKind → Bool → Type 0}
+      → ((xs : List Stmt) → SomeFit stmt_is_whole stmt_depth d xs → Q (s.Compound xs) false)
+      → Gives (compound_in E A S Sequence) Q
   sequence-gives f = behind sequence (λ xs w g. mark (give (f xs g)))
 
   assign-gives : Gives (assign_form E A) (KindGiven (suc d))
   assign-gives =
       behind (access-gives d A further) (λ a w f. mark (behind here (λ e v g.
-      give (given (StmtKind-F.Assign a e) (rolls-Assign a e) (and-true _ _ f.is_formed g.is_formed) refl (omega (arith, f.levels, g.levels)) refl))))
+      give (given (StmtKind-F.Assign a e) (rolls-Assign a e) (and-true _ _ f.is_formed g.is_formed) refl
+      (omega (arith, f.levels, g.levels)) refl))))
 
   call-gives : Gives (call_form A) (KindGiven (suc d))
   call-gives =
       behind identifier (λ x w e. behind (args-gives d A further) (λ args v f.
-      give (given (StmtKind-F.Call x args) (rolls-Call x args) (and-true _ _ e f.is_formed) refl (omega (arith, f.levels)) refl)))
+      give (given (StmtKind-F.Call x args) (rolls-Call x args) (and-true _ _ e f.is_formed) refl
+      (omega (arith, f.levels)) refl)))
 
   -- ---- `if`
 
-  if-none : (c : Expr) (a : Stmt) (w : Bool) → Fits expr_is_formed expr_depth (suc d) c → StmtGiven d a w → KindGiven (suc d) (s.If c a None) true
+  if-none : (c : Expr) (a : Stmt) (w : Bool) → Fits expr_is_formed expr_depth (suc d) c → StmtGiven d a w
+      → KindGiven (suc d) (s.If c a None) true
   if-none c a w f g =
       let (p, q) = and-parts _ _ g.fits.is_formed in
-      given (StmtKind-F.If c a None) (rolls-If c a None) (and-true _ _ (and-true _ _ f.is_formed p) refl) q (omega (arith, f.levels, g.fits.levels)) refl
+      given (StmtKind-F.If c a None) (rolls-If c a None) (and-true _ _ (and-true _ _ f.is_formed p) refl) q
+      (omega (arith, f.levels, g.fits.levels)) refl
 
-  if-some : (c : Expr) (a b : Stmt) (v : Bool) → Fits expr_is_formed expr_depth (suc d) c → StmtGiven d a false → StmtGiven d b v → KindGiven (suc d) (s.If c a (Some b)) v
+  if-some : (c : Expr) (a b : Stmt) (v : Bool) → Fits expr_is_formed expr_depth (suc d) c → StmtGiven d a false
+      → StmtGiven d b v → KindGiven (suc d) (s.If c a (Some b)) v
   if-some c a b v f g h =
       let (p, q) = and-parts _ _ g.fits.is_formed in
       let (r, t) = and-parts _ _ h.fits.is_formed in
       given (StmtKind-F.If c a (Some b)) (rolls-If c a (Some b)) (and-true _ _ (and-true _ _ f.is_formed p) r)
-      (and-true _ _ (and-true _ _ q (ap not (sym g.flag))) t) (omega (arith, f.levels, g.fits.levels, h.fits.levels)) h.flag
+      (and-true _ _ (and-true _ _ q (ap not (sym g.flag))) t)
+      (omega (arith, f.levels, g.fits.levels, h.fits.levels)) h.flag
 
-  else-gives : (c : Expr) (a : Stmt) (w : Bool) → Fits expr_is_formed expr_depth (suc d) c → StmtGiven d a w → Gives (else_form E A S Sequence c a w) (KindGiven (suc d))
+  else-gives : (c : Expr) (a : Stmt) (w : Bool) → Fits expr_is_formed expr_depth (suc d) c → StmtGiven d a w
+      → Gives (else_form E A S Sequence c a w) (KindGiven (suc d))
   else-gives c a true f g = give (if-none c a true f g)
-  else-gives c a false f g = choice (mark (behind inner (λ b v h. give (if-some c a b v f g h)))) (give (if-none c a false f g))
+  else-gives c a false f g =
+      choice (mark (behind inner (λ b v h. give (if-some c a b v f g h)))) (give (if-none c a false f g))
 
   if-gives : Gives (if_in E A S Sequence) (KindGiven (suc d))
   if-gives = behind here (λ c w f. mark (behind inner (λ a v g. else-gives c a v f g)))
@@ -113,7 +127,8 @@ module _ (d : ℕ) (E A : Form Expr) (S : Form Stmt)
   case-gives =
       behind here (λ e w f. mark (behind (ended semicolon_class arm-gives) (λ arms v g. mark (give
       (let (p, q) = some-parts arm_is_formed arm_ending paired arms g.is_formed in
-      given (StmtKind-F.Case e arms) (rolls-Case e arms) (and-true _ _ f.is_formed p) q (omega (arith, f.levels, g.levels)) refl)))))
+      given (StmtKind-F.Case e arms) (rolls-Case e arms) (and-true _ _ f.is_formed p) q
+      (omega (arith, f.levels, g.levels)) refl)))))
 
   -- ---- loops and `with`
 
@@ -121,25 +136,32 @@ module _ (d : ℕ) (E A : Form Expr) (S : Form Stmt)
   while-gives =
       behind here (λ c w f. mark (behind inner (λ x v g. give
       (let (p, q) = and-parts _ _ g.fits.is_formed in
-      given (StmtKind-F.While c x) (rolls-While c x) (and-true _ _ f.is_formed p) q (omega (arith, f.levels, g.fits.levels)) g.flag))))
+      given (StmtKind-F.While c x) (rolls-While c x) (and-true _ _ f.is_formed p) q
+      (omega (arith, f.levels, g.fits.levels)) g.flag))))
 
   repeat-gives : Gives (repeat_in E A S Sequence) (KindGiven (suc d))
   repeat-gives =
       behind sequence (λ xs w f. mark (behind here (λ c v g. give
       (let (p, q) = some-parts stmt_is_formed stmt_ending paired xs f.is_formed in
-      given (StmtKind-F.Repeat xs c) (rolls-Repeat xs c) (and-true _ _ p g.is_formed) q (omega (arith, f.levels, g.levels)) refl))))
+      given (StmtKind-F.Repeat xs c) (rolls-Repeat xs c) (and-true _ _ p g.is_formed) q
+      (omega (arith, f.levels, g.levels)) refl))))
 
   for-gives : Gives (for_in E A S Sequence) (KindGiven (suc d))
   for-gives =
-      behind identifier (λ x w e. mark (behind here (λ first v f. behind operator (λ down u any. behind here (λ last t g. mark (behind inner (λ y r h. give
+      behind identifier (λ x w e. mark
+      (behind here (λ first v f. behind operator
+      (λ down u any. behind here (λ last t g. mark (behind inner (λ y r h. give
       (let (p, q) = and-parts _ _ h.fits.is_formed in
-      given (StmtKind-F.For x first down last y) (rolls-For x first down last y) (and-true _ _ (and-true _ _ (and-true _ _ e f.is_formed) g.is_formed) p) q (omega (arith, f.levels, g.levels, h.fits.levels)) h.flag))))))))
+      given (StmtKind-F.For x first down last y) (rolls-For x first down last y)
+      (and-true _ _ (and-true _ _ (and-true _ _ e f.is_formed) g.is_formed) p) q
+      (omega (arith, f.levels, g.levels, h.fits.levels)) h.flag))))))))
 
   with-gives : Gives (with_in E A S Sequence) (KindGiven (suc d))
   with-gives =
       behind (list comma_class (access-gives d A further)) (λ records w f. mark (behind inner (λ x v g. give
       (let (p, q) = and-parts _ _ g.fits.is_formed in
-      given (StmtKind-F.With records x) (rolls-With records x) (and-true _ _ f.is_formed p) q (omega (arith, f.levels, g.fits.levels)) g.flag))))
+      given (StmtKind-F.With records x) (rolls-With records x) (and-true _ _ f.is_formed p) q
+      (omega (arith, f.levels, g.fits.levels)) g.flag))))
 
   -- ---- kinds, and statements with their labels
 
@@ -152,7 +174,8 @@ module _ (d : ℕ) (E A : Form Expr) (S : Form Stmt)
       (choice (mark repeat-gives)
       (choice (mark for-gives)
       (choice (mark with-gives)
-      (choice (mark (behind number (λ n w e. give (given (StmtKind-F.Goto n) (rolls-Goto n) e refl (omega arith) refl))))
+      (choice (mark (behind number
+      (λ n w e. give (given (StmtKind-F.Goto n) (rolls-Goto n) e refl (omega arith) refl))))
       (choice (choice assign-gives call-gives)
       (give (given StmtKind-F.Empty rolls-Empty refl refl (omega arith) refl))))))))))
 
@@ -166,4 +189,5 @@ module _ (d : ℕ) (E A : Form Expr) (S : Form Stmt)
 pub stmt-gives : (d : ℕ) → Gives (stmt_at d) (StmtGiven d)
 unfolding stmt_at
 stmt-gives zero = refused
-stmt-gives (suc d) = stmt-gives_in d (expr_at (suc d)) (expr_at d) (stmt_at d) (expr-gives (suc d)) (expr-gives d) (stmt-gives d)
+stmt-gives (suc d) =
+    stmt-gives_in d (expr_at (suc d)) (expr_at d) (stmt_at d) (expr-gives (suc d)) (expr-gives d) (stmt-gives d)

@@ -42,10 +42,12 @@ stmt_is_whole x = stmt_is_formed x && (stmt_ending x).is_paired
 -- ---- what a layer says
 
 abbrev pub kind_formed : KindLayer → Bool
-kind_formed x = formed_kind (map-StmtKind StmtKind Arm Stmt Bool Bool Bool kind_is_formed arm_is_formed stmt_is_formed x)
+kind_formed x =
+    formed_kind (map-StmtKind StmtKind Arm Stmt Bool Bool Bool kind_is_formed arm_is_formed stmt_is_formed x)
 
 abbrev pub kind_ends : KindLayer → Ending
-kind_ends x = ending_of_kind (map-StmtKind StmtKind Arm Stmt Ending Ending Ending kind_ending arm_ending stmt_ending x)
+kind_ends x =
+    ending_of_kind (map-StmtKind StmtKind Arm Stmt Ending Ending Ending kind_ending arm_ending stmt_ending x)
 
 abbrev pub kind_levels : KindLayer → ℕ
 kind_levels x = depth_of_kind (map-StmtKind StmtKind Arm Stmt ℕ ℕ ℕ kind_depth arm_depth stmt_depth x)
@@ -95,19 +97,22 @@ pub stmt-depth : (x : StmtLayer) → stmt_depth (roll-Stmt x) ≡ kind_depth x.k
 unfolding kind_depth arm_depth stmt_depth
 stmt-depth x = fold-roll-Stmt ℕ ℕ ℕ depth_of_kind depth_of_arm depth_of_stmt x
 
-pub kind_layer : Layer kind_is_whole kind_depth roll-StmtKind (λ x. kind_formed x && (kind_ends x).is_paired) kind_levels
+pub kind_layer : Layer kind_is_whole kind_depth roll-StmtKind (λ x. kind_formed x && (kind_ends x).is_paired)
+    kind_levels
 kind_layer = record {
   formed_is = λ x. both (kind-formed x) (ap (λ (e : Ending). e.is_paired) (kind-ending x));
   depth_is = kind-depth;
 }
 
-pub arm_layer : Layer arm_is_whole arm_depth roll-Arm (λ x. arm_formed x && (stmt_ending x.body).is_paired) (λ x. stmt_depth x.body)
+pub arm_layer : Layer arm_is_whole arm_depth roll-Arm (λ x. arm_formed x && (stmt_ending x.body).is_paired)
+    (λ x. stmt_depth x.body)
 arm_layer = record {
   formed_is = λ x. both (arm-formed x) (ap (λ (e : Ending). e.is_paired) (arm-ending x));
   depth_is = arm-depth;
 }
 
-pub stmt_layer : Layer stmt_is_whole stmt_depth roll-Stmt (λ x. stmt_formed x && (kind_ending x.kind).is_paired) (λ x. kind_depth x.kind)
+pub stmt_layer : Layer stmt_is_whole stmt_depth roll-Stmt (λ x. stmt_formed x && (kind_ending x.kind).is_paired)
+    (λ x. kind_depth x.kind)
 stmt_layer = record {
   formed_is = λ x. both (stmt-formed x) (ap (λ (e : Ending). e.is_paired) (stmt-ending x));
   depth_is = stmt-depth;
@@ -119,7 +124,8 @@ module _ {A B : Type 0} (formed : A → Bool) (part : A → B) (test : B → Boo
   abbrev pub is_both : A → Bool
   is_both a = formed a && test (part a)
 
-  pub all-parts : (xs : List A) → all_formed (map is_both xs) ≡ true → (all_formed (map formed xs) ≡ true) × (list_all test (map part xs) ≡ true)
+  pub all-parts : (xs : List A) → all_formed (map is_both xs) ≡ true
+      → (all_formed (map formed xs) ≡ true) × (list_all test (map part xs) ≡ true)
   all-parts [] e = (refl, refl)
   all-parts (x ∷ xs) e =
       let (p, q) = and-parts _ _ e in
@@ -127,17 +133,20 @@ module _ {A B : Type 0} (formed : A → Bool) (part : A → B) (test : B → Boo
       let r = all-parts xs q in
       (and-true _ _ f r.0, and-true _ _ g r.1)
 
-  pub some-parts : (xs : List A) → some_formed (map is_both xs) ≡ true → (some_formed (map formed xs) ≡ true) × (list_all test (map part xs) ≡ true)
+  pub some-parts : (xs : List A) → some_formed (map is_both xs) ≡ true
+      → (some_formed (map formed xs) ≡ true) × (list_all test (map part xs) ≡ true)
   some-parts [] e = absurd cc
   some-parts (x ∷ xs) e = all-parts (x ∷ xs) e
 
-  pub all-whole : (xs : List A) → all_formed (map formed xs) ≡ true → list_all test (map part xs) ≡ true → all_formed (map is_both xs) ≡ true
+  pub all-whole : (xs : List A) → all_formed (map formed xs) ≡ true → list_all test (map part xs) ≡ true
+      → all_formed (map is_both xs) ≡ true
   all-whole [] e f = refl
   all-whole (x ∷ xs) e f =
       let (p, q) = and-parts _ _ e in
       let (r, s) = and-parts _ _ f in
       and-true _ _ (and-true _ _ p r) (all-whole xs q s)
 
-  pub some-whole : (xs : List A) → some_formed (map formed xs) ≡ true → list_all test (map part xs) ≡ true → some_formed (map is_both xs) ≡ true
+  pub some-whole : (xs : List A) → some_formed (map formed xs) ≡ true → list_all test (map part xs) ≡ true
+      → some_formed (map is_both xs) ≡ true
   some-whole [] e f = absurd cc
   some-whole (x ∷ xs) e f = all-whole (x ∷ xs) e f

@@ -1,5 +1,5 @@
--- A statement that is formed and in which each `else` belongs to its own `if` is spelled by a text, names aside, with the
--- levels that it takes.
+-- A statement that is formed and in which each `else` belongs to its own `if` is spelled by a text, names aside, with
+-- the levels that it takes.
 use Rattle.std.specs.Prelude.{◌≡◌, ℕ, ◌≤◌, zero, suc, Bool, true, false, not, List, Option, Some, None, map}
 use Rattle.std.proofs.Common.{refl, sym, ap, subst, ◌∙◌, arith}
 use Rattle.dice_base.specs.Forms.{Form, one, list_of}
@@ -74,17 +74,20 @@ module _ (d : ℕ) (E A : Form Expr) (S : Form Stmt)
 
   -- ---- `if`
 
-  else-none : (c : Expr) (a : Stmt) (w : Bool) {k : StmtKind} → k ≡ s.If c a None → Spelled (else_form E A S Sequence c a w) k true
+  else-none : (c : Expr) (a : Stmt) (w : Bool) {k : StmtKind} → k ≡ s.If c a None
+      → Spelled (else_form E A S Sequence c a w) k true
   else-none c a true is = done is
   else-none c a false is = right (done is)
 
-  else-some : (c : Expr) (a b : Stmt) (w v : Bool) {k : StmtKind} → w ≡ false → k ≡ s.If c a (Some b) → Spelled S b v → Spelled (else_form E A S Sequence c a w) k v
+  else-some : (c : Expr) (a b : Stmt) (w v : Bool) {k : StmtKind} → w ≡ false → k ≡ s.If c a (Some b) → Spelled S b v
+      → Spelled (else_form E A S Sequence c a w) k v
   else-some c a b true v shut is r = absurd cc
   else-some c a b false v shut is r = left (word words.ELSE refl (after r (done is)))
 
   -- ---- `case`
 
-  arm-spelled : (a : Arm) → Fits arm_is_whole arm_depth d a → Spelled (arm_form E A S Sequence) (unnamed_arm a) (is_open (out-Arm a).body)
+  arm-spelled : (a : Arm) → Fits arm_is_whole arm_depth d a
+      → Spelled (arm_form E A S Sequence) (unnamed_arm a) (is_open (out-Arm a).body)
   arm-spelled a f =
       let x = out-Arm a in
       let (e, n) = opened arm_layer x (subst (λ b. Fits arm_is_whole arm_depth d b) (sym (roll-out-Arm a)) f) in
@@ -99,15 +102,19 @@ module _ (d : ℕ) (E A : Form Expr) (S : Form Stmt)
 
   -- ---- kinds
 
-  pub compound-spelled : (xs : List Stmt) → SomeFit stmt_is_whole stmt_depth d xs → Spelled (compound_in E A S Sequence) (s.Compound (map unnamed_stmt xs)) false
+  pub compound-spelled : (xs : List Stmt) → SomeFit stmt_is_whole stmt_depth d xs
+      → Spelled (compound_in E A S Sequence) (s.Compound (map unnamed_stmt xs)) false
   compound-spelled xs f = after (list_as signs.SEMICOLON refl stmts xs f) (word words.END refl (done refl))
 
-  kind-layer : (x : KindLayer) → Fits kind_is_whole kind_depth (suc d) (roll-StmtKind x) → Spelled (kind_form E A S Sequence) (roll-StmtKind (without_names x)) (kind_ends x).is_open
+  kind-layer : (x : KindLayer) → Fits kind_is_whole kind_depth (suc d) (roll-StmtKind x)
+      → Spelled (kind_form E A S Sequence) (roll-StmtKind (without_names x)) (kind_ends x).is_open
   kind-layer (StmtKind-F.Compound xs) h =
       let (e, n) = opened kind_layer (StmtKind-F.Compound xs) h in
       let (p, q) = and-parts _ _ e in
       subst (λ k. Spelled (kind_form E A S Sequence) k false) (sym (rolls-Compound (map unnamed_stmt xs)))
-      (left (word words.BEGIN refl (compound-spelled xs (record { is_formed = some-whole stmt_is_formed stmt_ending paired xs p q; levels = omega (arith, n) }))))
+      (left (word words.BEGIN refl
+      (compound-spelled xs
+      (record { is_formed = some-whole stmt_is_formed stmt_ending paired xs p q; levels = omega (arith, n) }))))
   kind-layer (StmtKind-F.If c a None) h =
       let (e, n) = opened kind_layer (StmtKind-F.If c a None) h in
       let (p, q) = and-parts _ _ e in
@@ -124,20 +131,24 @@ module _ (d : ℕ) (E A : Form Expr) (S : Form Stmt)
       let (r, shut) = and-parts _ _ closed in
       right (left (word words.IF refl (after (here c (record { is_formed = first; levels = omega (arith, n) }))
       (word words.THEN refl (after (inner a (record { is_formed = and-true _ _ second r; levels = omega (arith, n) }))
-      (else-some c (unnamed_stmt a) (unnamed_stmt b) (is_open a) (is_open b) (not-true (is_open a) shut) (rolls-If c (unnamed_stmt a) (Some (unnamed_stmt b)))
+      (else-some c (unnamed_stmt a) (unnamed_stmt b) (is_open a) (is_open b) (not-true (is_open a) shut)
+      (rolls-If c (unnamed_stmt a) (Some (unnamed_stmt b)))
       (inner b (record { is_formed = and-true _ _ v matched; levels = omega (arith, n) }))))))))
   kind-layer (StmtKind-F.Case c xs) h =
       let (e, n) = opened kind_layer (StmtKind-F.Case c xs) h in
       let (p, q) = and-parts _ _ e in
       let (t, u) = and-parts _ _ p in
       right (right (left (word words.CASE refl (after (here c (record { is_formed = t; levels = omega (arith, n) }))
-      (word words.OF refl (after (ended_as signs.SEMICOLON refl arms xs (record { is_formed = some-whole arm_is_formed arm_ending paired xs u q; levels = omega (arith, n) }))
+      (word words.OF refl (after
+      (ended_as signs.SEMICOLON refl arms xs
+      (record { is_formed = some-whole arm_is_formed arm_ending paired xs u q; levels = omega (arith, n) }))
       (word words.END refl (done (rolls-Case c (map unnamed_arm xs))))))))))
   kind-layer (StmtKind-F.While c x) h =
       let (e, n) = opened kind_layer (StmtKind-F.While c x) h in
       let (p, q) = and-parts _ _ e in
       let (t, u) = and-parts _ _ p in
-      right (right (right (left (word words.WHILE refl (after (here c (record { is_formed = t; levels = omega (arith, n) }))
+      right (right (right (left
+      (word words.WHILE refl (after (here c (record { is_formed = t; levels = omega (arith, n) }))
       (word words.DO refl (after (inner x (record { is_formed = and-true _ _ u q; levels = omega (arith, n) }))
       (done (rolls-While c (unnamed_stmt x))))))))))
   kind-layer (StmtKind-F.Repeat xs c) h =
@@ -145,8 +156,11 @@ module _ (d : ℕ) (E A : Form Expr) (S : Form Stmt)
       let (p, q) = and-parts _ _ e in
       let (t, u) = and-parts _ _ p in
       right (right (right (right (left (word words.REPEAT refl
-      (after (list_as signs.SEMICOLON refl stmts xs (record { is_formed = some-whole stmt_is_formed stmt_ending paired xs t q; levels = omega (arith, n) }))
-      (word words.UNTIL refl (after (here c (record { is_formed = u; levels = omega (arith, n) })) (done (rolls-Repeat (map unnamed_stmt xs) c))))))))))
+      (after (list_as signs.SEMICOLON refl stmts xs
+      (record { is_formed = some-whole stmt_is_formed stmt_ending paired xs t q; levels = omega (arith, n) }))
+      (word words.UNTIL refl
+      (after (here c (record { is_formed = u; levels = omega (arith, n) }))
+      (done (rolls-Repeat (map unnamed_stmt xs) c))))))))))
   kind-layer (StmtKind-F.For x first down last y) h =
       let (e, n) = opened kind_layer (StmtKind-F.For x first down last y) h in
       let (p, q) = and-parts _ _ e in
@@ -163,35 +177,47 @@ module _ (d : ℕ) (E A : Form Expr) (S : Form Stmt)
       let (p, q) = and-parts _ _ e in
       let (t, u) = and-parts _ _ p in
       right (right (right (right (right (right (left (word words.WITH refl
-      (after (list signs.COMMA refl (access-spelled d A further) records (record { is_formed = t; levels = omega (arith, n) }))
+      (after (list signs.COMMA refl (access-spelled d A further) records
+      (record { is_formed = t; levels = omega (arith, n) }))
       (word words.DO refl (after (inner x (record { is_formed = and-true _ _ u q; levels = omega (arith, n) }))
       (done (rolls-With records (unnamed_stmt x)))))))))))))
   kind-layer (StmtKind-F.Goto label) h =
       let (e, n) = opened kind_layer (StmtKind-F.Goto label) h in
-      right (right (right (right (right (right (right (left (word words.GOTO refl (after (number label (and-parts _ _ e).0) (done (rolls-Goto label)))))))))))
+      right (right (right (right
+      (right (right (right
+      (left (word words.GOTO refl (after (number label (and-parts _ _ e).0) (done (rolls-Goto label)))))))))))
   kind-layer (StmtKind-F.Assign a x) h =
       let (e, n) = opened kind_layer (StmtKind-F.Assign a x) h in
       let (t, u) = and-parts _ _ (and-parts _ _ e).0 in
-      right (right (right (right (right (right (right (right (left (left (after (access-spelled d A further a (record { is_formed = t; levels = omega (arith, n) }))
-      (sign signs.BECOMES refl (after (here x (record { is_formed = u; levels = omega (arith, n) })) (done (rolls-Assign a x))))))))))))))
+      right (right (right (right
+      (right (right (right
+      (right (left (left (after (access-spelled d A further a (record { is_formed = t; levels = omega (arith, n) }))
+      (sign signs.BECOMES refl
+      (after (here x (record { is_formed = u; levels = omega (arith, n) })) (done (rolls-Assign a x))))))))))))))
   kind-layer (StmtKind-F.Call x args) h =
       let (e, n) = opened kind_layer (StmtKind-F.Call x args) h in
       let (t, u) = and-parts _ _ (and-parts _ _ e).0 in
       right (right (right (right (right (right (right (right (left (right (after (identifier x t)
-      (after (args-spelled d A further args (record { is_formed = u; levels = omega (arith, n) })) (done (rolls-Call x args)))))))))))))
-  kind-layer StmtKind-F.Empty h = right (right (right (right (right (right (right (right (right (done rolls-Empty)))))))))
+      (after (args-spelled d A further args (record { is_formed = u; levels = omega (arith, n) }))
+      (done (rolls-Call x args)))))))))))))
+  kind-layer StmtKind-F.Empty h =
+      right (right (right (right (right (right (right (right (right (done rolls-Empty)))))))))
 
-  kind-spelled : (k : StmtKind) → Fits kind_is_whole kind_depth (suc d) k → Spelled (kind_form E A S Sequence) (unnamed_kind k) (kind_ending k).is_open
+  kind-spelled : (k : StmtKind) → Fits kind_is_whole kind_depth (suc d) k
+      → Spelled (kind_form E A S Sequence) (unnamed_kind k) (kind_ending k).is_open
   kind-spelled k f =
       let x = out-StmtKind k in
       let is : roll-StmtKind x ≡ k = roll-out-StmtKind k in
       let r = kind-layer x (subst (λ l. Fits kind_is_whole kind_depth (suc d) l) (sym is) f) in
-      subst (λ l. Spelled (kind_form E A S Sequence) l (kind_ending k).is_open) (sym (kind-unnamed x) ∙ ap unnamed_kind is)
-      (subst (λ w. Spelled (kind_form E A S Sequence) (roll-StmtKind (without_names x)) w) (ap (λ (y : Ending). y.is_open) (sym (kind-ending x) ∙ ap kind_ending is)) r)
+      subst (λ l. Spelled (kind_form E A S Sequence) l (kind_ending k).is_open)
+      (sym (kind-unnamed x) ∙ ap unnamed_kind is)
+      (subst (λ w. Spelled (kind_form E A S Sequence) (roll-StmtKind (without_names x)) w)
+      (ap (λ (y : Ending). y.is_open) (sym (kind-ending x) ∙ ap kind_ending is)) r)
 
   -- ---- statements with their labels
 
-  labelled : (label : Option ℕ) (k : StmtKind) (w : Bool) → formed_label label ≡ true → Spelled (kind_form E A S Sequence) k w → Spelled (stmt_form E A S Sequence) (make_stmt label k) w
+  labelled : (label : Option ℕ) (k : StmtKind) (w : Bool) → formed_label label ≡ true
+      → Spelled (kind_form E A S Sequence) k w → Spelled (stmt_form E A S Sequence) (make_stmt label k) w
   labelled (Some n) k w e r = left (after (number n e) (sign signs.COLON refl (after r (done refl))))
   labelled None k w e r = right (after r (done refl))
 
@@ -202,9 +228,12 @@ module _ (d : ℕ) (E A : Form Expr) (S : Form Stmt)
       let (e, n) = opened stmt_layer x (subst (λ z. Fits stmt_is_whole stmt_depth (suc d) z) (sym is) f) in
       let (p, q) = and-parts _ _ e in
       let (label, kind) = and-parts _ _ p in
-      let r = labelled x.label (unnamed_kind x.kind) (kind_ending x.kind).is_open label (kind-spelled x.kind (record { is_formed = and-true _ _ kind q; levels = n })) in
+      let r =
+      labelled x.label (unnamed_kind x.kind) (kind_ending x.kind).is_open label
+      (kind-spelled x.kind (record { is_formed = and-true _ _ kind q; levels = n })) in
       subst (λ z. Spelled (stmt_form E A S Sequence) z (is_open y)) (sym (stmt-unnamed x) ∙ ap unnamed_stmt is)
-      (subst (λ w. Spelled (stmt_form E A S Sequence) (make_stmt x.label (unnamed_kind x.kind)) w) (ap (λ (z : Ending). z.is_open) (sym (stmt-ending x) ∙ ap stmt_ending is)) r)
+      (subst (λ w. Spelled (stmt_form E A S Sequence) (make_stmt x.label (unnamed_kind x.kind)) w)
+      (ap (λ (z : Ending). z.is_open) (sym (stmt-ending x) ∙ ap stmt_ending is)) r)
 
 -- ---- each takes a level at least
 
@@ -231,4 +260,6 @@ stmt-some = some_levels stmt_layer out-Stmt roll-out-Stmt (λ x. kind-some x.kin
 pub stmt-spelled : (d : ℕ) → StmtSpelling (stmt_at d) d
 unfolding stmt_at
 stmt-spelled zero = λ x f. absurd (omega (arith, stmt-some x, f.levels))
-stmt-spelled (suc d) = stmt-spelled_in d (expr_at (suc d)) (expr_at d) (stmt_at d) (expr-spelled (suc d)) (expr-spelled d) (stmt-spelled d)
+stmt-spelled (suc d) =
+    stmt-spelled_in d (expr_at (suc d)) (expr_at d) (stmt_at d) (expr-spelled (suc d)) (expr-spelled d)
+    (stmt-spelled d)

@@ -28,10 +28,14 @@ unfolding constant_is_formed
 constant-spelled (constant.Named prefix.Without x) e = left (after (identifier x e) (done refl))
 constant-spelled (constant.Str x) e = right (left (after (string x e) (done refl)))
 constant-spelled (constant.Number prefix.Without n) e = right (right (left (after (number n e) (done refl))))
-constant-spelled (constant.Number prefix.Plus n) e = right (right (right (after (sign_operator signs.PLUS refl refl) (left (after (number n e) (done refl))))))
-constant-spelled (constant.Number prefix.Minus n) e = right (right (right (after (sign_operator signs.MINUS refl refl) (left (after (number n e) (done refl))))))
-constant-spelled (constant.Named prefix.Plus x) e = right (right (right (after (sign_operator signs.PLUS refl refl) (right (after (identifier x e) (done refl))))))
-constant-spelled (constant.Named prefix.Minus x) e = right (right (right (after (sign_operator signs.MINUS refl refl) (right (after (identifier x e) (done refl))))))
+constant-spelled (constant.Number prefix.Plus n) e =
+    right (right (right (after (sign_operator signs.PLUS refl refl) (left (after (number n e) (done refl))))))
+constant-spelled (constant.Number prefix.Minus n) e =
+    right (right (right (after (sign_operator signs.MINUS refl refl) (left (after (number n e) (done refl))))))
+constant-spelled (constant.Named prefix.Plus x) e =
+    right (right (right (after (sign_operator signs.PLUS refl refl) (right (after (identifier x e) (done refl))))))
+constant-spelled (constant.Named prefix.Minus x) e =
+    right (right (right (after (sign_operator signs.MINUS refl refl) (right (after (identifier x e) (done refl))))))
 
 pub idents-spelled : (xs : List (List ℕ)) → are_identifiers xs ≡ true → Spelled idents_form xs false
 idents-spelled xs e = flat_list signs.COMMA refl identifier xs e
@@ -41,78 +45,104 @@ idents-spelled xs e = flat_list signs.COMMA refl identifier xs e
 no_simple : (b : Bool) → (b && false) ≡ true → ⊥
 no_simple b e = let r = and-parts b false e in let bad : false ≡ true = r.1 in cc
 
-simple-layer : (d : ℕ) (x : TypeTextLayer) → Fits is_simple_type type_depth d (roll-TypeText x) → Spelled simple_form (roll-TypeText x) false
+simple-layer : (d : ℕ) (x : TypeTextLayer) → Fits is_simple_type type_depth d (roll-TypeText x)
+    → Spelled simple_form (roll-TypeText x) false
 simple-layer d (TypeText-F.Named x) h =
     let (e, n) = opened simple_layer (TypeText-F.Named x) h in
     right (left (after (identifier x (and-parts _ _ e).0) (done (rolls-Named x))))
 simple-layer d (TypeText-F.Enumeration xs) h =
     let (e, n) = opened simple_layer (TypeText-F.Enumeration xs) h in
-    left (sign signs.OPEN refl (after (idents-spelled xs (and-parts _ _ e).0) (sign signs.CLOSE refl (done (rolls-Enumeration xs)))))
+    left (sign signs.OPEN refl
+    (after (idents-spelled xs (and-parts _ _ e).0) (sign signs.CLOSE refl (done (rolls-Enumeration xs)))))
 simple-layer d (TypeText-F.Range first last) h =
     let (e, n) = opened simple_layer (TypeText-F.Range first last) h in
     let (p, q) = and-parts _ _ (and-parts _ _ e).0 in
-    right (right (after (constant-spelled first p) (sign signs.RANGE refl (after (constant-spelled last q) (done (rolls-Range first last))))))
+    right (right (after (constant-spelled first p)
+    (sign signs.RANGE refl (after (constant-spelled last q) (done (rolls-Range first last))))))
 simple-layer d (TypeText-F.Pointer x) h = absurd (no_simple _ (opened simple_layer (TypeText-F.Pointer x) h).0)
-simple-layer d (TypeText-F.Array packed indexes component) h = absurd (no_simple _ (opened simple_layer (TypeText-F.Array packed indexes component) h).0)
-simple-layer d (TypeText-F.SetOf packed base) h = absurd (no_simple _ (opened simple_layer (TypeText-F.SetOf packed base) h).0)
-simple-layer d (TypeText-F.RecordOf packed fields) h = absurd (no_simple _ (opened simple_layer (TypeText-F.RecordOf packed fields) h).0)
+simple-layer d (TypeText-F.Array packed indexes component) h =
+    absurd (no_simple _ (opened simple_layer (TypeText-F.Array packed indexes component) h).0)
+simple-layer d (TypeText-F.SetOf packed base) h =
+    absurd (no_simple _ (opened simple_layer (TypeText-F.SetOf packed base) h).0)
+simple-layer d (TypeText-F.RecordOf packed fields) h =
+    absurd (no_simple _ (opened simple_layer (TypeText-F.RecordOf packed fields) h).0)
 
 pub simple-spelled : (d : ℕ) → Spelling simple_form is_simple_type type_depth d
 simple-spelled d = whole roll-TypeText out-TypeText roll-out-TypeText (simple-layer d)
 
 -- ---- types, where it holds of inner ones
 
-module _ (d : ℕ) (I T : Form TypeText) (index : Spelling I is_simple_type type_depth d) (inner : Spelling T type_is_formed type_depth d) where
-  field-layer : (x : FieldTextLayer) → Fits field_is_formed field_depth d (roll-FieldText x) → Spelled (field_form I T) (roll-FieldText x) false
+module _ (d : ℕ) (I T : Form TypeText) (index : Spelling I is_simple_type type_depth d)
+    (inner : Spelling T type_is_formed type_depth d) where
+  field-layer : (x : FieldTextLayer) → Fits field_is_formed field_depth d (roll-FieldText x)
+      → Spelled (field_form I T) (roll-FieldText x) false
   field-layer x h =
       let (e, n) = opened field_layer x h in
       let (p, q) = and-parts _ _ e in
-      after (idents-spelled x.idents p) (sign signs.COLON refl (after (inner x.shape (record { is_formed = q; levels = n })) (done refl)))
+      after (idents-spelled x.idents p)
+      (sign signs.COLON refl (after (inner x.shape (record { is_formed = q; levels = n })) (done refl)))
 
   field-spelled : Spelling (field_form I T) field_is_formed field_depth d
   field-spelled = whole roll-FieldText out-FieldText roll-out-FieldText field-layer
 
   -- behind `array`, `set` and `record`
-  array-spelled : (packed : Bool) (indexes : List TypeText) (component : TypeText) → Fits type_is_formed type_depth (suc d) (roll-TypeText (TypeText-F.Array packed indexes component))
+  array-spelled : (packed : Bool) (indexes : List TypeText) (component : TypeText)
+      → Fits type_is_formed type_depth (suc d) (roll-TypeText (TypeText-F.Array packed indexes component))
       → Spelled (array_in I T packed) (roll-TypeText (TypeText-F.Array packed indexes component)) false
   array-spelled packed indexes component h =
       let (e, n) = opened type_layer (TypeText-F.Array packed indexes component) h in
       let (p, q) = and-parts _ _ e in
-      sign signs.LEFT refl (after (list signs.COMMA refl index indexes (record { is_formed = sym (ap some_formed (shapes-simple indexes)) ∙ p; levels = omega (arith, n) }))
-      (sign signs.RIGHT refl (word words.OF refl (after (inner component (record { is_formed = q; levels = omega (arith, n) })) (done (rolls-Array packed indexes component))))))
+      sign signs.LEFT refl
+      (after (list signs.COMMA refl index indexes
+      (record { is_formed = sym (ap some_formed (shapes-simple indexes)) ∙ p; levels = omega (arith, n) }))
+      (sign signs.RIGHT refl
+      (word words.OF refl (after (inner component (record { is_formed = q; levels = omega (arith, n) }))
+      (done (rolls-Array packed indexes component))))))
 
-  set-spelled : (packed : Bool) (base : TypeText) → Fits type_is_formed type_depth (suc d) (roll-TypeText (TypeText-F.SetOf packed base)) → Spelled (set_in I T packed) (roll-TypeText (TypeText-F.SetOf packed base)) false
+  set-spelled : (packed : Bool) (base : TypeText)
+      → Fits type_is_formed type_depth (suc d) (roll-TypeText (TypeText-F.SetOf packed base))
+      → Spelled (set_in I T packed) (roll-TypeText (TypeText-F.SetOf packed base)) false
   set-spelled packed base h =
       let (e, n) = opened type_layer (TypeText-F.SetOf packed base) h in
-      word words.OF refl (after (index base (record { is_formed = e; levels = omega (arith, n) })) (done (rolls-SetOf packed base)))
+      word words.OF refl (after (index base (record { is_formed = e; levels = omega (arith, n) }))
+      (done (rolls-SetOf packed base)))
 
-  record-spelled : (packed : Bool) (fields : List FieldText) → Fits type_is_formed type_depth (suc d) (roll-TypeText (TypeText-F.RecordOf packed fields)) → Spelled (record_in I T packed) (roll-TypeText (TypeText-F.RecordOf packed fields)) false
+  record-spelled : (packed : Bool) (fields : List FieldText)
+      → Fits type_is_formed type_depth (suc d) (roll-TypeText (TypeText-F.RecordOf packed fields))
+      → Spelled (record_in I T packed) (roll-TypeText (TypeText-F.RecordOf packed fields)) false
   record-spelled packed [] h = left (word words.END refl (done (rolls-RecordOf packed [])))
   record-spelled packed (x ∷ xs) h =
       let (e, n) = opened type_layer (TypeText-F.RecordOf packed (x ∷ xs)) h in
-      right (after (ended signs.SEMICOLON refl field-spelled (x ∷ xs) (record { is_formed = e; levels = omega (arith, n) }))
+      right (after (ended signs.SEMICOLON refl field-spelled (x ∷ xs)
+      (record { is_formed = e; levels = omega (arith, n) }))
       (word words.END refl (done (rolls-RecordOf packed (x ∷ xs)))))
 
   -- behind `packed` or without it
-  struct-spelled : (packed : Bool) (a : TypeText) → Spelled (struct_form I T packed) a false → Spelled (type_form I T) a false
+  struct-spelled : (packed : Bool) (a : TypeText) → Spelled (struct_form I T packed) a false
+      → Spelled (type_form I T) a false
   struct-spelled true a s = right (left (word words.PACKED refl s))
   struct-spelled false a s = right (right (left s))
 
-  simple-fits : (x : TypeTextLayer) → (layer_shape x).simple ≡ true → Fits type_is_formed type_depth (suc d) (roll-TypeText x) → Spelled (type_form I T) (roll-TypeText x) false
+  simple-fits : (x : TypeTextLayer) → (layer_shape x).simple ≡ true
+      → Fits type_is_formed type_depth (suc d) (roll-TypeText x) → Spelled (type_form I T) (roll-TypeText x) false
   simple-fits x is h =
       let (e, n) = opened type_layer x h in
       right (right (right (simple-spelled (suc d) (roll-TypeText x) (made simple_layer x (and-true _ _ e is) n))))
 
-  type-layer : (x : TypeTextLayer) → Fits type_is_formed type_depth (suc d) (roll-TypeText x) → Spelled (type_form I T) (roll-TypeText x) false
+  type-layer : (x : TypeTextLayer) → Fits type_is_formed type_depth (suc d) (roll-TypeText x)
+      → Spelled (type_form I T) (roll-TypeText x) false
   type-layer (TypeText-F.Named x) h = simple-fits (TypeText-F.Named x) refl h
   type-layer (TypeText-F.Enumeration xs) h = simple-fits (TypeText-F.Enumeration xs) refl h
   type-layer (TypeText-F.Range first last) h = simple-fits (TypeText-F.Range first last) refl h
   type-layer (TypeText-F.Pointer x) h =
       let (e, n) = opened type_layer (TypeText-F.Pointer x) h in
       left (sign signs.ARROW refl (after (identifier x e) (done (rolls-Pointer x))))
-  type-layer (TypeText-F.Array packed indexes component) h = struct-spelled packed _ (left (word words.ARRAY refl (array-spelled packed indexes component h)))
-  type-layer (TypeText-F.SetOf packed base) h = struct-spelled packed _ (right (left (word words.SET refl (set-spelled packed base h))))
-  type-layer (TypeText-F.RecordOf packed fields) h = struct-spelled packed _ (right (right (word words.RECORD refl (record-spelled packed fields h))))
+  type-layer (TypeText-F.Array packed indexes component) h =
+      struct-spelled packed _ (left (word words.ARRAY refl (array-spelled packed indexes component h)))
+  type-layer (TypeText-F.SetOf packed base) h =
+      struct-spelled packed _ (right (left (word words.SET refl (set-spelled packed base h))))
+  type-layer (TypeText-F.RecordOf packed fields) h =
+      struct-spelled packed _ (right (right (word words.RECORD refl (record-spelled packed fields h))))
 
   type-spelled_in : Spelling (type_form I T) type_is_formed type_depth (suc d)
   type-spelled_in = whole roll-TypeText out-TypeText roll-out-TypeText type-layer

@@ -57,11 +57,13 @@ and-parts false b e = absurd cc
 pub and-true : (a b : Bool) → a ≡ true → b ≡ true → (a && b) ≡ true
 and-true a b p q = rw (p, q) refl
 
-all-true : (p q : ℕ → Bool) → ((c : ℕ) → p c ≡ true → q c ≡ true) → (cs : List ℕ) → AllByRecursion (λ c. p c ≡ true) cs → list_all q cs ≡ true
+all-true : (p q : ℕ → Bool) → ((c : ℕ) → p c ≡ true → q c ≡ true) → (cs : List ℕ)
+    → AllByRecursion (λ c. p c ≡ true) cs → list_all q cs ≡ true
 all-true p q f [] h = refl
 all-true p q f (c ∷ cs) h = and-true (q c) (list_all q cs) (f c h.0) (all-true p q f cs h.1)
 
-each-true : (p q : ℕ → Bool) → ((c : ℕ) → p c ≡ true → q c ≡ true) → (cs : List ℕ) → list_all p cs ≡ true → AllByRecursion (λ c. q c ≡ true) cs
+each-true : (p q : ℕ → Bool) → ((c : ℕ) → p c ≡ true → q c ≡ true) → (cs : List ℕ) → list_all p cs ≡ true
+    → AllByRecursion (λ c. q c ≡ true) cs
 each-true p q f [] e = tt
 each-true p q f (c ∷ cs) e = let r = and-parts (p c) (list_all p cs) e in (f c r.0, each-true p q f cs r.1)
 
@@ -74,11 +76,13 @@ IsPossible (Number n) = is_number n ≡ true
 IsPossible (Str x) = is_string x ≡ true
 IsPossible _ = Unit {0}
 
-lowered : (cs : List ℕ) → AllByRecursion (λ b. word_byte b ≡ true) cs → list_all (λ b. is_small_letter b || digit_byte b) (map lower cs) ≡ true
+lowered : (cs : List ℕ) → AllByRecursion (λ b. word_byte b ≡ true) cs
+    → list_all (λ b. is_small_letter b || digit_byte b) (map lower cs) ≡ true
 lowered [] h = refl
 lowered (c ∷ cs) h = and-true _ _ (lower-word c h.0) (lowered cs h.1)
 
-word-possible : (c : ℕ) (cs : List ℕ) → class c ≡ Letter → AllByRecursion (λ b. word_byte b ≡ true) cs → (o : Option ℕ) → word_symbol (map lower (c ∷ cs)) ≡ o → IsPossible (named_by o (map lower (c ∷ cs)))
+word-possible : (c : ℕ) (cs : List ℕ) → class c ≡ Letter → AllByRecursion (λ b. word_byte b ≡ true) cs
+    → (o : Option ℕ) → word_symbol (map lower (c ∷ cs)) ≡ o → IsPossible (named_by o (map lower (c ∷ cs)))
 word-possible c cs is each None e =
     and-true _ _ (and-true _ _ (lower-small c is) (lowered cs each)) (rw e refl)
 word-possible c cs is each (Some k) e = tt
@@ -117,7 +121,8 @@ ident_lexeme (c ∷ cs) e =
     record {
       text = c ∷ cs;
       is = subst (λ (t : TokenKind). Lexeme (c ∷ cs) t) (none-named (c ∷ cs) (map lower (c ∷ cs)) low r.1)
-          (word c cs (small-class c s.0) (each-true (λ b. is_small_letter b || digit_byte b) word_byte word-small cs s.1));
+          (word c cs (small-class c s.0)
+          (each-true (λ b. is_small_letter b || digit_byte b) word_byte word-small cs s.1));
     }
 
 some-length : (c : ℕ) (cs : List ℕ) → 0 < length (c ∷ cs)
@@ -126,7 +131,11 @@ some-length c cs = omega arith
 pub string_lexeme : (x : List ℕ) → is_string x ≡ true → HasLexeme (Str x)
 string_lexeme [] e = absurd cc
 string_lexeme (c ∷ cs) e =
-    record { text = _; is = string (c ∷ cs) (some-length c cs) (each-true string_byte string_byte (λ b h. h) (c ∷ cs) e) }
+    record {
+      text = _;
+      is = string (c ∷ cs) (some-length c cs)
+          (each-true string_byte string_byte (λ b h. h) (c ∷ cs) e);
+    }
 
 -- ---- numbers
 
@@ -152,7 +161,8 @@ digit_of Digit e = refl
 digit_of Separator e = absurd cc
 digit_of Mark e = absurd cc
 
-digits_lexeme : (ds : List ℕ) (n : ℕ) → 0 < length ds → AllByRecursion (λ b. digit_byte b ≡ true) ds → value_of ds ≡ n → n ≤ largest_number → HasLexeme (Number n)
+digits_lexeme : (ds : List ℕ) (n : ℕ) → 0 < length ds → AllByRecursion (λ b. digit_byte b ≡ true) ds
+    → value_of ds ≡ n → n ≤ largest_number → HasLexeme (Number n)
 digits_lexeme [] n some each is low = absurd (omega (arith, some))
 digits_lexeme (c ∷ cs) n some each is low = record {
   text = c ∷ cs;
@@ -163,7 +173,8 @@ pub number_lexeme : (n : ℕ) → is_number n ≡ true → HasLexeme (Number n)
 number_lexeme n e =
     let low : n ≤ largest_number = leb-true n largest_number e in
     let small : n < 2 ^ 64 = omega (arith, low) in
-    digits_lexeme (decimal n) n (decimal_nonempty n small) (digits_decimal numerals n small) (digits_value-decimal numerals n small) low
+    digits_lexeme (decimal n) n (decimal_nonempty n small) (digits_decimal numerals n small)
+    (digits_value-decimal numerals n small) low
 
 -- ---- word symbols and signs
 
@@ -200,7 +211,8 @@ sign_at k = get_or (map (λ s. s.now) SIGNS) k []
 -- each word symbol is its own spelling
 abbrev is_word : ℕ → List ℕ → Bool
 is_word k [] = false
-is_word k (c ∷ cs) = is_small_letter c && list_all (λ b. is_small_letter b || digit_byte b) cs && is_at k (word_symbol (c ∷ cs))
+is_word k (c ∷ cs) =
+    is_small_letter c && list_all (λ b. is_small_letter b || digit_byte b) cs && is_at k (word_symbol (c ∷ cs))
 
 words-found : all_below (λ k. is_word k (word_at k)) 35 ≡ true
 unfolding word_symbol
@@ -221,8 +233,11 @@ word-spelled k (c ∷ cs) e =
     let low : map lower (c ∷ cs) ≡ c ∷ cs = rw (small-lower c s.0, small-words cs s.1) refl in
     record {
       text = c ∷ cs;
-      is = subst (λ (t : TokenKind). Lexeme (c ∷ cs) t) (some-named k (c ∷ cs) (map lower (c ∷ cs)) low (found-at k (word_symbol (c ∷ cs)) r.1))
-          (word c cs (small-class c s.0) (each-true (λ b. is_small_letter b || digit_byte b) word_byte word-small cs s.1));
+      is =
+          subst (λ (t : TokenKind). Lexeme (c ∷ cs) t)
+          (some-named k (c ∷ cs) (map lower (c ∷ cs)) low (found-at k (word_symbol (c ∷ cs)) r.1))
+          (word c cs (small-class c s.0)
+          (each-true (λ b. is_small_letter b || digit_byte b) word_byte word-small cs s.1));
     }
 
 -- each word symbol is a token of some text, and so is each sign
@@ -232,5 +247,6 @@ word_lexeme k h = word-spelled k (word_at k) (below-true (λ i. is_word i (word_
 pub sign_lexeme : (k : ℕ) → k < 20 → HasLexeme (Sign k)
 sign_lexeme k h = record {
   text = sign_at k;
-  is = sign (sign_at k) k (found-at k (sign_of (sign_at k)) (below-true (λ i. is_at i (sign_of (sign_at i))) 20 k signs-found h));
+  is = sign (sign_at k) k
+      (found-at k (sign_of (sign_at k)) (below-true (λ i. is_at i (sign_of (sign_at i))) 20 k signs-found h));
 }
