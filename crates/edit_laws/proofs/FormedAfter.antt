@@ -14,8 +14,8 @@ use Rattle.pascal_tree.specs.Formed.{kind_is_formed, arm_is_formed, stmt_is_form
 use Rattle.pascal_tree.specs.FormedExprs.{formed_if_any}
 use Rattle.pascal_tree.specs.Formed.{formed_label, constant_is_formed, heading_is_formed, label_part_is_formed, part_is_formed, const_is_formed, typedef_is_formed, vars_are_formed}
 use Rattle.tree_edit.specs.Place.{change, change_if, change_any, change_in_arm, change_in_kind, change_in_stmt, put_at, declared, with_routines, with_body, after_decls, change_in_routine, put_in_block, is_here, leads_in, leads_to_body}
-use Rattle.tree_laws.proofs.Words.{and-parts, and-true}
-use Rattle.tree_laws.proofs.StmtLayers.{KindLayer, StmtLayer, kind_formed, kind-formed, arm-formed, stmt-formed}
+use Rattle.expression_laws.proofs.Words.{and-parts, and-true}
+use Rattle.statement_laws.proofs.StmtLayers.{KindLayer, StmtLayer, kind_formed, kind-formed, arm-formed, stmt-formed}
 use Rattle.tree_laws.proofs.BlockLayers.{BlockLayer, block-formed, routine-formed}
 
 abbrev some_of : {A : Type 0} → A → Option A

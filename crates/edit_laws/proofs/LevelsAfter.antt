@@ -12,7 +12,7 @@ use Rattle.pascal_tree.specs.declared.decl.Block.{Block, out-Block, roll-out-Blo
 use Rattle.pascal_tree.specs.declared.decl.Routine.{Routine, out-Routine, roll-Routine, roll-out-Routine}
 use Rattle.pascal_tree.specs.Depth.{most, depth_if_any, decls_depth, kind_depth, arm_depth, stmt_depth, block_depth, routine_depth}
 use Rattle.tree_edit.specs.Place.{change, change_if, change_any, change_in_arm, change_in_kind, change_in_stmt, put_at, declared, with_routines, with_body, after_decls, change_in_routine, put_in_block}
-use Rattle.tree_laws.proofs.StmtLayers.{KindLayer, kind_levels, kind-depth, arm-depth, stmt-depth}
+use Rattle.statement_laws.proofs.StmtLayers.{KindLayer, kind_levels, kind-depth, arm-depth, stmt-depth}
 use Rattle.tree_laws.proofs.BlockLayers.{block-depth, routine-depth}
 
 -- ---- what is changed in one place, to at most so many levels or as many as it had

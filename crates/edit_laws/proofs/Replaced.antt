@@ -18,8 +18,8 @@ use Rattle.program_tree.specs.Lookups.{name_of}
 use Rattle.tree_edit.specs.Edited as edited
 use Rattle.tree_edit.specs.Edited.{is_without, can_be_body, can_stand, last_level, are_spent, edited_program, is_right_kind, replaced_stmt, stmt_of, replaced_at, replaced_found, replaced_program}
 use Rattle.tree_edit.specs.Place.{put_in_block, leads_to_body}
-use Rattle.tree_laws.proofs.Words.{and-parts, and-true}
-use Rattle.tree_laws.proofs.StmtLayers.{KindLayer}
+use Rattle.expression_laws.proofs.Words.{and-parts, and-true}
+use Rattle.statement_laws.proofs.StmtLayers.{KindLayer}
 use Rattle.tree_laws.proofs.Renamed.{renamed-formed, renamed-levels, renamed-body}
 use Rattle.edit_laws.proofs.FormedAfter.{put_block-formed}
 use Rattle.edit_laws.proofs.LevelsAfter.{put_block-levels}

@@ -1,6 +1,7 @@
-pub mod Column
 mod Examples
+pub mod Column
 pub mod ListedNames
 pub mod Moved
+pub mod OneText
 pub mod ReadsBack
 pub mod Unnamed

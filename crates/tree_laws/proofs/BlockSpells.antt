@@ -27,16 +27,16 @@ use Rattle.pascal_tree.specs.FormedExprs.{is_identifier, all_formed}
 use Rattle.pascal_tree.specs.Formed.{formed_label, kind_is_formed, type_is_formed, is_compound, is_body, stmt_is_formed, routine_is_formed}
 use Rattle.pascal_tree.specs.Openness.{kind_ending, stmt_ending, routine_is_paired}
 use Rattle.pascal_tree.specs.Depth.{decls_depth, type_depth, stmt_depth, kind_depth, block_depth, routine_depth}
-use Rattle.tree_laws.specs.Spelled.{Spelled}
-use Rattle.tree_laws.proofs.Words.{and-parts, and-true, ident_lexeme}
-use Rattle.tree_laws.proofs.Gives.{Fits}
-use Rattle.tree_laws.proofs.Layers.{opened, some_levels}
-use Rattle.tree_laws.proofs.Spells.{Spelling, done, left, right, after, single, identifier, word, sign, items_as, flat_list}
-use Rattle.tree_laws.proofs.ExprSpells.{expr-spelled}
-use Rattle.tree_laws.proofs.TypeSpells.{type-spelled}
-use Rattle.tree_laws.proofs.DeclSpells.{constdef-spelled, typedef-spelled, vardef-spelled, part-spelled, label-part-spelled, heading-spelled}
-use Rattle.tree_laws.proofs.StmtLayers.{paired, stmt_formed, KindLayer, kind_is_whole, stmt_is_whole, kind_layer, stmt_layer, some-whole, all-whole}
-use Rattle.tree_laws.proofs.StmtSpells.{kind-unnamed, stmt-unnamed, compound-spelled, stmt-spelled}
+use Rattle.expression_laws.specs.Spelled.{Spelled}
+use Rattle.expression_laws.proofs.Words.{and-parts, and-true, ident_lexeme}
+use Rattle.expression_laws.proofs.Gives.{Fits}
+use Rattle.expression_laws.proofs.Layers.{opened, some_levels}
+use Rattle.expression_laws.proofs.Spells.{Spelling, done, left, right, after, single, identifier, word, sign, items_as, flat_list}
+use Rattle.expression_laws.proofs.ExprSpells.{expr-spelled}
+use Rattle.statement_laws.proofs.TypeSpells.{type-spelled}
+use Rattle.statement_laws.proofs.DeclSpells.{constdef-spelled, typedef-spelled, vardef-spelled, part-spelled, label-part-spelled, heading-spelled}
+use Rattle.statement_laws.proofs.StmtLayers.{paired, stmt_formed, KindLayer, kind_is_whole, stmt_is_whole, kind_layer, stmt_layer, some-whole, all-whole}
+use Rattle.statement_laws.proofs.StmtSpells.{kind-unnamed, stmt-unnamed, compound-spelled, stmt-spelled}
 use Rattle.tree_laws.proofs.BlockLayers.{BlockLayer, block_is_whole, routine_is_whole, block_layer, routine_layer}
 use Rattle.tree_laws.proofs.BlockGives.{ProgramFits}
 
@@ -175,7 +175,11 @@ module _ (d : ℕ) (T : Form TypeText) (P : Form Routine)
       let (f, body) = and-parts _ _ formed in
       let (is, whole) = and-parts _ _ body in
       let (inner, last) = and-parts _ _ match in
-      let b = body-spelled d x.body is (record { is_formed = and-true _ _ whole last; levels = omega (arith, n) }) in
+      let fits : Fits stmt_is_whole stmt_depth d x.body = record {
+        is_formed = and-true _ _ whole last;
+        levels = omega (arith, n);
+      } in
+      let b = body-spelled d x.body is fits in
       subst (λ z. Spelled (block_form T P (body_at d)) z false)
       (sym (block-unnamed x ∙ ap (λ y. roll-Block (record {
         labels = option_map unnamed_decl x.labels;

@@ -14,13 +14,13 @@ use Rattle.pascal_tree.specs.Formed.{routine_is_formed, stmt_is_formed, decl_is_
 use Rattle.pascal_tree.specs.Openness.{routine_is_paired, Ending, is_open, stmt_ending}
 use Rattle.pascal_tree.specs.Depth.{stmt_depth, decl_depth, routine_depth, tree_levels}
 use Rattle.tree_laws.specs.Spelled.{IsSpelled, IsSpelledStmt, IsSpelledDecl, IsSpelledRoutine, IsSpelledHeading}
-use Rattle.tree_laws.proofs.Words.{and-parts, and-true}
-use Rattle.tree_laws.proofs.Gives.{Fits}
-use Rattle.tree_laws.proofs.StmtLayers.{stmt_is_whole}
-use Rattle.tree_laws.proofs.StmtGives.{stmt-gives}
-use Rattle.tree_laws.proofs.StmtSpells.{stmt-spelled}
-use Rattle.tree_laws.proofs.DeclGives.{decl-gives, heading-gives}
-use Rattle.tree_laws.proofs.DeclSpells.{decl-spelled, heading-spelled}
+use Rattle.expression_laws.proofs.Words.{and-parts, and-true}
+use Rattle.expression_laws.proofs.Gives.{Fits}
+use Rattle.statement_laws.proofs.StmtLayers.{stmt_is_whole}
+use Rattle.statement_laws.proofs.StmtGives.{stmt-gives}
+use Rattle.statement_laws.proofs.StmtSpells.{stmt-spelled}
+use Rattle.statement_laws.proofs.DeclGives.{decl-gives, heading-gives}
+use Rattle.statement_laws.proofs.DeclSpells.{decl-spelled, heading-spelled}
 use Rattle.tree_laws.proofs.BlockGives.{ProgramFits, program-gives, routine-gives}
 use Rattle.tree_laws.proofs.BlockSpells.{program-spelled, routine-spelled}
 use Rattle.tree_laws.proofs.Nameless.{stmt-formed, stmt-levels, stmt-ends, block-formed, block-levels, block-paired, routine-formed, routine-levels, routine-paired}

@@ -11,8 +11,8 @@ use Rattle.pascal_tree.specs.Names.{stmt_renaming}
 use Rattle.pascal_tree.specs.Naming.{Numbering, list_numbering, kind_in_turn, arm_in_turn, stmt_in_turn, kind_numbering, arm_numbering, stmt_numbering}
 use Rattle.pascal_tree.specs.Formed.{formed_kind, formed_arm, formed_stmt, is_compound, is_body, stmt_is_formed}
 use Rattle.pascal_tree.specs.Depth.{depth_of_kind, depth_of_arm, depth_of_stmt, stmt_depth}
-use Rattle.tree_laws.proofs.Words.{and-parts, and-true}
-use Rattle.tree_laws.proofs.StmtLayers.{KindLayer, StmtLayer}
+use Rattle.expression_laws.proofs.Words.{and-parts, and-true}
+use Rattle.statement_laws.proofs.StmtLayers.{KindLayer, StmtLayer}
 use Rattle.tree_laws.proofs.Folds.{Agree, agreed_kind}
 
 -- ---- what is folded by steps of which none reads a name

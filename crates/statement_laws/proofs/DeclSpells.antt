@@ -16,12 +16,12 @@ use Rattle.pascal_tree.specs.Unnamed.{unnamed_decl}
 use Rattle.pascal_tree.specs.FormedExprs.{is_identifier, all_formed}
 use Rattle.pascal_tree.specs.Formed.{type_is_formed, labels_are_formed, const_is_formed, typedef_is_formed, vars_are_formed, decl_is_formed, label_part_is_formed, section_is_formed, result_is_formed, heading_is_formed}
 use Rattle.pascal_tree.specs.Depth.{type_depth, decl_depth}
-use Rattle.tree_laws.specs.Spelled.{Spelled}
-use Rattle.tree_laws.proofs.Words.{and-parts}
-use Rattle.tree_laws.proofs.Gives.{Fits, AllFit}
-use Rattle.tree_laws.proofs.Spells.{Spelling, done, left, right, after, identifier, number, word, sign, some_items_as, flat_list}
-use Rattle.tree_laws.proofs.TypeSpells.{constant-spelled, idents-spelled, type-spelled}
-use Rattle.tree_laws.proofs.DeclGives.{of_kind}
+use Rattle.expression_laws.specs.Spelled.{Spelled}
+use Rattle.expression_laws.proofs.Words.{and-parts}
+use Rattle.expression_laws.proofs.Gives.{Fits, AllFit}
+use Rattle.expression_laws.proofs.Spells.{Spelling, done, left, right, after, identifier, number, word, sign, some_items_as, flat_list}
+use Rattle.statement_laws.proofs.TypeSpells.{constant-spelled, idents-spelled, type-spelled}
+use Rattle.statement_laws.proofs.DeclGives.{of_kind}
 
 -- ---- declarations, where T is a type at the level of the block
 

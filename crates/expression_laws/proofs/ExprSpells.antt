@@ -30,12 +30,12 @@ use Rattle.pascal_tree.specs.Expressions as form
 use Rattle.pascal_tree.specs.Expressions.{part_form, access_form, width_form, arg_form, args_in, args_form, last_form, member_form, members_in, factor_form, sign_form, mul_form, term_form, add_form, sum_form, rel_form, expr_form, expr_at, factor_at}
 use Rattle.pascal_tree.specs.FormedExprs.{access_part_is_formed, factor_is_formed, access_is_formed, add_part_is_formed, arg_is_formed, expr_is_formed, mul_part_is_formed, rel_part_is_formed, member_is_formed, sum_is_formed, term_is_formed}
 use Rattle.pascal_tree.specs.Depth.{access_part_depth, factor_depth, access_depth, add_part_depth, arg_depth, expr_depth, mul_part_depth, rel_part_depth, member_depth, sum_depth, term_depth}
-use Rattle.tree_laws.specs.Spelled.{Spelled}
-use Rattle.tree_laws.proofs.Words.{and-parts}
-use Rattle.tree_laws.proofs.Gives.{Fits, AllFit, SomeFit}
-use Rattle.tree_laws.proofs.Layers.{opened, some_levels}
-use Rattle.tree_laws.proofs.ExprLayers.{AccessPartLayer, FactorLayer, AccessLayer, AddPartLayer, MulPartLayer, RelPartLayer, SumExprLayer, TermLayer, factor_levels, access_part_layer, factor_layer, access_layer, add_part_layer, arg_layer, expr_layer, mul_part_layer, rel_part_layer, member_layer, sum_layer, term_layer}
-use Rattle.tree_laws.proofs.Spells.{Spelling, whole, done, left, right, after, identifier, number, string, word, sign, word_operator, sign_operator, items, list}
+use Rattle.expression_laws.specs.Spelled.{Spelled}
+use Rattle.expression_laws.proofs.Words.{and-parts}
+use Rattle.expression_laws.proofs.Gives.{Fits, AllFit, SomeFit}
+use Rattle.expression_laws.proofs.Layers.{opened, some_levels}
+use Rattle.expression_laws.proofs.ExprLayers.{AccessPartLayer, FactorLayer, AccessLayer, AddPartLayer, MulPartLayer, RelPartLayer, SumExprLayer, TermLayer, factor_levels, access_part_layer, factor_layer, access_layer, add_part_layer, arg_layer, expr_layer, mul_part_layer, rel_part_layer, member_layer, sum_layer, term_layer}
+use Rattle.expression_laws.proofs.Spells.{Spelling, whole, done, left, right, after, identifier, number, string, word, sign, word_operator, sign_operator, items, list}
 
 -- ---- accesses, arguments, sets and factors, where it holds of inner expressions
 

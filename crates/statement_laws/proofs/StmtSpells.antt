@@ -22,14 +22,14 @@ use Rattle.pascal_tree.specs.FormedExprs.{expr_is_formed}
 use Rattle.pascal_tree.specs.Formed.{formed_label, arm_is_formed, stmt_is_formed}
 use Rattle.pascal_tree.specs.Openness.{Ending, kind_ending, arm_ending, stmt_ending, is_open}
 use Rattle.pascal_tree.specs.Depth.{expr_depth, kind_depth, arm_depth, stmt_depth}
-use Rattle.tree_laws.specs.Spelled.{Spelled}
-use Rattle.tree_laws.proofs.Words.{and-parts, and-true}
-use Rattle.tree_laws.proofs.Gives.{Fits, SomeFit}
-use Rattle.tree_laws.proofs.Layers.{opened, some_levels}
-use Rattle.tree_laws.proofs.Spells.{CoversAs, Spelling, done, left, right, after, identifier, number, word, sign, word_operator, list, list_as, ended_as, flat_list}
-use Rattle.tree_laws.proofs.ExprSpells.{access-spelled, args-spelled, expr-spelled, access-some, expr-some}
-use Rattle.tree_laws.proofs.TypeSpells.{constant-spelled}
-use Rattle.tree_laws.proofs.StmtLayers.{paired, KindLayer, ArmLayer, StmtLayer, kind_is_whole, arm_is_whole, stmt_is_whole, kind_ends, kind_levels, kind-ending, stmt-ending, kind_layer, arm_layer, stmt_layer, some-whole}
+use Rattle.expression_laws.specs.Spelled.{Spelled}
+use Rattle.expression_laws.proofs.Words.{and-parts, and-true}
+use Rattle.expression_laws.proofs.Gives.{Fits, SomeFit}
+use Rattle.expression_laws.proofs.Layers.{opened, some_levels}
+use Rattle.expression_laws.proofs.Spells.{CoversAs, Spelling, done, left, right, after, identifier, number, word, sign, word_operator, list, list_as, ended_as, flat_list}
+use Rattle.expression_laws.proofs.ExprSpells.{access-spelled, args-spelled, expr-spelled, access-some, expr-some}
+use Rattle.statement_laws.proofs.TypeSpells.{constant-spelled}
+use Rattle.statement_laws.proofs.StmtLayers.{paired, KindLayer, ArmLayer, StmtLayer, kind_is_whole, arm_is_whole, stmt_is_whole, kind_ends, kind_levels, kind-ending, stmt-ending, kind_layer, arm_layer, stmt_layer, some-whole}
 
 -- ---- a layer without names
 

@@ -9,9 +9,9 @@ use Rattle.dice_base.specs.Tokens.{Toks, class_of, has_class}
 use Rattle.dice_base.specs.Forms.{Form, just, one, token, chain, either, named, numeral, quoted, row, rows_behind, rows, some_rows, list_of, ended_list}
 use Rattle.pascal_tree.specs.FormedExprs.{is_identifier, is_number, is_string, some_formed}
 use Rattle.pascal_tree.specs.Depth.{most}
-use Rattle.tree_laws.specs.Spelled.{HasLexeme, Spelled}
-use Rattle.tree_laws.proofs.Words.{and-parts, ident_lexeme, number_lexeme, string_lexeme, word_lexeme, sign_lexeme}
-use Rattle.tree_laws.proofs.Gives.{no_levels, Fits, AllFit, SomeFit, some-all, all-append}
+use Rattle.expression_laws.specs.Spelled.{HasLexeme, Spelled}
+use Rattle.expression_laws.proofs.Words.{and-parts, ident_lexeme, number_lexeme, string_lexeme, word_lexeme, sign_lexeme}
+use Rattle.expression_laws.proofs.Gives.{no_levels, Fits, AllFit, SomeFit, some-all, all-append}
 
 -- ---- nothing, one form or another, and one after another
 

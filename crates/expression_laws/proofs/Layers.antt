@@ -1,7 +1,7 @@
 -- What a tree has by what its parts have.
 use Rattle.std.specs.Prelude.{◌≡◌, ℕ, ◌≤◌, Bool, true}
 use Rattle.std.proofs.Common.{sym, subst, ◌∙◌}
-use Rattle.tree_laws.proofs.Gives.{Fits}
+use Rattle.expression_laws.proofs.Gives.{Fits}
 
 -- a tree is made of its layer, which has trees in the places of its parts: whether it is formed, and how many levels it
 -- takes, is what these say of the layer

@@ -14,7 +14,7 @@ use Rattle.dice_base.specs.declared.token.TokenKind.TheVariants.{Word, Ident, Nu
 use Rattle.dice_base.specs.declared.symbols.TheConstants.{WORD_SYMBOLS, SIGNS}
 use Rattle.dice_base.specs.Lexemes.{class, is_letter, is_digit, digit_byte, word_byte, string_byte, largest_number, value_from, value_of, lower, word_symbol, sign_of, named_by, Lexeme, word, number, string, sign, alternative, hole}
 use Rattle.pascal_tree.specs.FormedExprs.{is_small_letter, is_identifier, is_number, is_string}
-use Rattle.tree_laws.specs.Spelled.{HasLexeme}
+use Rattle.expression_laws.specs.Spelled.{HasLexeme}
 
 abbrev some_of : {A : Type 0} → A → Option A
 some_of a = Some a

@@ -14,12 +14,12 @@ use Rattle.pascal_tree.specs.Declarations.{constant_form, idents_form, simple_fo
 use Rattle.pascal_tree.specs.FormedExprs.{some_formed}
 use Rattle.pascal_tree.specs.Formed.{are_identifiers, constant_is_formed, type_is_formed, is_simple_type, field_is_formed}
 use Rattle.pascal_tree.specs.Depth.{type_depth, field_depth}
-use Rattle.tree_laws.specs.Spelled.{Spelled}
-use Rattle.tree_laws.proofs.Words.{and-parts, and-true}
-use Rattle.tree_laws.proofs.Gives.{Fits}
-use Rattle.tree_laws.proofs.Layers.{made, opened, some_levels}
-use Rattle.tree_laws.proofs.TypeLayers.{TypeTextLayer, FieldTextLayer, layer_shape, type_levels, type_layer, simple_layer, field_layer, shapes-simple}
-use Rattle.tree_laws.proofs.Spells.{Spelling, whole, done, left, right, after, identifier, number, string, word, sign, sign_operator, list, ended, flat_list}
+use Rattle.expression_laws.specs.Spelled.{Spelled}
+use Rattle.expression_laws.proofs.Words.{and-parts, and-true}
+use Rattle.expression_laws.proofs.Gives.{Fits}
+use Rattle.expression_laws.proofs.Layers.{made, opened, some_levels}
+use Rattle.statement_laws.proofs.TypeLayers.{TypeTextLayer, FieldTextLayer, layer_shape, type_levels, type_layer, simple_layer, field_layer, shapes-simple}
+use Rattle.expression_laws.proofs.Spells.{Spelling, whole, done, left, right, after, identifier, number, string, word, sign, sign_operator, list, ended, flat_list}
 
 -- ---- constants and identifiers
 

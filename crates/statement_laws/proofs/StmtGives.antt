@@ -15,12 +15,12 @@ use Rattle.pascal_tree.specs.FormedExprs.{expr_is_formed}
 use Rattle.pascal_tree.specs.Formed.{formed_label, arm_is_formed, stmt_is_formed}
 use Rattle.pascal_tree.specs.Openness.{Ending, kind_ending, arm_ending, stmt_ending}
 use Rattle.pascal_tree.specs.Depth.{expr_depth, kind_depth, arm_depth, stmt_depth}
-use Rattle.tree_laws.proofs.Words.{and-parts, and-true}
-use Rattle.tree_laws.proofs.Gives.{Fits, SomeFit, Gives, Fitting, give, refused, choice, behind, weaken, operator, mark, identifier, number, list, ended, flat_list}
-use Rattle.tree_laws.proofs.Layers.{made, variant}
-use Rattle.tree_laws.proofs.ExprGives.{access-gives, args-gives, expr-gives}
-use Rattle.tree_laws.proofs.TypeGives.{constant-gives}
-use Rattle.tree_laws.proofs.StmtLayers.{paired, KindLayer, kind_is_whole, arm_is_whole, stmt_is_whole, kind_formed, kind_ends, kind_levels, kind-ending, stmt-ending, kind_layer, arm_layer, stmt_layer, some-parts}
+use Rattle.expression_laws.proofs.Words.{and-parts, and-true}
+use Rattle.expression_laws.proofs.Gives.{Fits, SomeFit, Gives, Fitting, give, refused, choice, behind, weaken, operator, mark, identifier, number, list, ended, flat_list}
+use Rattle.expression_laws.proofs.Layers.{made, variant}
+use Rattle.expression_laws.proofs.ExprGives.{access-gives, args-gives, expr-gives}
+use Rattle.statement_laws.proofs.TypeGives.{constant-gives}
+use Rattle.statement_laws.proofs.StmtLayers.{paired, KindLayer, kind_is_whole, arm_is_whole, stmt_is_whole, kind_formed, kind_ends, kind_levels, kind-ending, stmt-ending, kind_layer, arm_layer, stmt_layer, some-parts}
 
 -- ---- a kind, and a statement, that is whole, has at most so many levels, and is open or not
 

@@ -12,10 +12,10 @@ use Rattle.pascal_tree.specs.Declarations.{constant_form, idents_form, simple_fo
 use Rattle.pascal_tree.specs.FormedExprs.{some_formed}
 use Rattle.pascal_tree.specs.Formed.{are_identifiers, constant_is_formed, type_is_formed, is_simple_type, field_is_formed}
 use Rattle.pascal_tree.specs.Depth.{type_depth, field_depth}
-use Rattle.tree_laws.proofs.Words.{and-parts, and-true}
-use Rattle.tree_laws.proofs.Gives.{Fits, AllFit, SomeFit, Gives, Fitting, some-all, give, refused, choice, behind, weaken, operator, mark, identifier, number, string, list, ended, flat_list}
-use Rattle.tree_laws.proofs.Layers.{made, variant}
-use Rattle.tree_laws.proofs.TypeLayers.{type_layer, simple_layer, field_layer, shapes-simple}
+use Rattle.expression_laws.proofs.Words.{and-parts, and-true}
+use Rattle.expression_laws.proofs.Gives.{Fits, AllFit, SomeFit, Gives, Fitting, some-all, give, refused, choice, behind, weaken, operator, mark, identifier, number, string, list, ended, flat_list}
+use Rattle.expression_laws.proofs.Layers.{made, variant}
+use Rattle.statement_laws.proofs.TypeLayers.{type_layer, simple_layer, field_layer, shapes-simple}
 
 -- ---- constants and identifiers
 
