@@ -1,6 +1,7 @@
 -- Which programs a text can spell: those of words that a text can have in which no list is empty where the grammar
 -- (ISO 7185:1990, 6.2 to 6.10) wants one item or more, and each part is of the sort that its place asks for. So far
--- `stmt_is_formed` and its like say; in `is_formed` and its like, at the end, come levels and to which `if` an `else` belongs.
+-- `stmt_is_formed` and its like say; in `is_formed` and its like, at the end, come levels and to which `if` an `else`
+-- belongs.
 use Rattle.std.specs.Prelude.{ℕ, Bool, true, false, ◌&&◌, ◌||◌, nat_le, List, [], ◌∷◌, Option, Some, None, is_none, map}
 use Rattle.pascal_tree.specs.declared.stmt.Constant.{Constant}
 use Rattle.pascal_tree.specs.declared.stmt.Constant.TheVariants as constant
