@@ -1,5 +1,5 @@
 -- The first column of some lines.
-use Rattle.std.specs.Prelude.{◌≡◌, List, [], ◌∷◌, codes}
+use Rattle.std.specs.Prelude.{◌≡◌, [], ◌∷◌, codes}
 use Rattle.std.proofs.Common.{refl}
 use Rattle.dice_base.specs.Lines.{joined, lines_of, whole_lines}
 use Rattle.listing_laws.specs.FirstColumn.{first_column}

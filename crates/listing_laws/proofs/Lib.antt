@@ -1,7 +1,7 @@
-pub mod Column
 mod Examples
-pub mod Folds
+pub mod Column
 pub mod ListedNames
 pub mod Moved
+pub mod OneText
 pub mod ReadsBack
 pub mod Unnamed

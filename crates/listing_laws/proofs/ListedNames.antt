@@ -21,7 +21,7 @@ use Rattle.pascal_tree.specs.Names.{decl_names, label_names, of_kind, of_arm, of
 use Rattle.pascal_print.specs.declared.event.Event.{Event}
 use Rattle.pascal_print.specs.declared.event.Event.TheVariants.{Item, Part, Back, Token}
 use Rattle.pascal_print.specs.Events.{Laid, said, label_tokens, range, child, more, sequence, ended, heading, labels, declaration, part, in_kind, in_arm, in_stmt, in_block, in_routine, stmt_events, decl_events, block_events, program_events}
-use Rattle.listing_laws.proofs.Folds.{Agree, agreed, AgreeOnBlocks, agreed_block}
+use Rattle.tree_laws.proofs.Folds.{Agree, agreed, AgreeOnBlocks, agreed_block}
 
 -- the names of the items that begin
 abbrev pub item_names : List Event → List ℕ

@@ -27,7 +27,7 @@ use Rattle.pascal_print.specs.declared.event.Event.TheVariants.{Token}
 use Rattle.pascal_print.specs.Events as events
 use Rattle.pascal_print.specs.Events.{Laid, tokens_of, said, label_tokens, tested, range, child, more, sequence, ended, labels, declaration, part, in_kind, in_arm, in_stmt, in_block, in_routine, stmt_events, kind_events, arm_events, block_events, routine_events, program_tokens}
 use Rattle.own_tokens.proofs.EventTokens.{tokens-append, tokens-child}
-use Rattle.listing_laws.proofs.Folds.{Agree, agreed, AgreeOnBlocks, agreed_block}
+use Rattle.tree_laws.proofs.Folds.{Agree, agreed, AgreeOnBlocks, agreed_block}
 
 -- ---- events whose tokens are the same
 

@@ -4,7 +4,7 @@ use Rattle.std.proofs.lemmas.Simd.{map-map}
 use Rattle.pascal_tree.specs.declared.stmt.Stmt.{Stmt, Stmt-F, roll-Stmt, fold-Stmt}
 use Rattle.pascal_tree.specs.declared.stmt.StmtKind.{StmtKind, StmtKind-F, roll-StmtKind, fold-StmtKind}
 use Rattle.pascal_tree.specs.declared.stmt.Arm.{Arm, Arm-F, roll-Arm, fold-Arm}
-use Rattle.pascal_tree.specs.declared.stmt.StmtKind.TheFolds.{map-StmtKind, map-Arm, map-Stmt, fold-roll-StmtKind, fold-roll-Arm, fold-roll-Stmt, ind-Stmt}
+use Rattle.pascal_tree.specs.declared.stmt.StmtKind.TheFolds.{map-StmtKind, map-Arm, map-Stmt, fold-roll-StmtKind, fold-roll-Arm, fold-roll-Stmt, ind-StmtKind, ind-Stmt}
 use Rattle.dice_base.specs.declared.name.Name.{Name}
 use Rattle.pascal_tree.specs.declared.decl.Decl.{Decl}
 use Rattle.pascal_tree.specs.declared.decl.Heading.{Heading}
@@ -141,6 +141,10 @@ module _ {K A S L B T : Type 0}
 
     pub agreed : (s : Stmt) → OfStmts (fold-Stmt K A S kind arm stmt s) (fold-Stmt L B T kind' arm' stmt' s)
     agreed = ind-Stmt KindAgrees ArmAgrees StmtAgrees kind-agrees arm-agrees stmt-agrees
+
+    pub agreed_kind : (k : StmtKind) → OfKinds (fold-StmtKind K A S kind arm stmt k)
+        (fold-StmtKind L B T kind' arm' stmt' k)
+    agreed_kind = ind-StmtKind KindAgrees ArmAgrees StmtAgrees kind-agrees arm-agrees stmt-agrees
 
 -- ---- blocks and routines
 

@@ -1,0 +1,3 @@
+pub mod FormedAfter
+pub mod LevelsAfter
+pub mod Replaced

@@ -1,0 +1,7 @@
+pub mod ExprGives
+pub mod ExprLayers
+pub mod ExprSpells
+pub mod Gives
+pub mod Layers
+pub mod Spells
+pub mod Words

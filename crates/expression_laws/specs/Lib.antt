@@ -1,0 +1,4 @@
+pub mod Formed
+pub mod FormedExprs
+pub mod Levels
+pub mod Spelled

@@ -1,0 +1,2 @@
+//! Which types, declarations, headings and statements a text can spell.
+#![tactic(auto)]
