@@ -5,7 +5,7 @@ use pascal_tree::{
     TypeText,
 };
 use program_tree::{Item, Program};
-use sqlite_items::Items;
+use sqlite_items::{Boxed, Items};
 use std::alloc::Global;
 use std::test::Fail;
 use tree_edit::{EditFault, replace};
@@ -57,6 +57,22 @@ fn assignment(alloc: Global) -> Result<Stmt, NoMemory> {
     let ident = Text::from_slice(alloc, b"i")?;
     let parts = Items::new(alloc);
     Ok(unnamed(StmtKind::Assign(Access { ident, parts }, one(alloc))))
+}
+
+// `if 1 then`, and an empty statement.
+fn open_choice(alloc: Global) -> Result<Boxed<Stmt>, NoMemory> {
+    let yes = Boxed::new(alloc, unnamed(StmtKind::Empty))?;
+    let choice = Boxed::new(alloc, unnamed(StmtKind::If(one(alloc), yes, None)))?;
+    Ok(choice)
+}
+
+// `if 1 then while 1 do else`, with an empty statement behind `do` and behind `else`.
+fn choice(alloc: Global) -> Result<Boxed<Stmt>, NoMemory> {
+    let body = Boxed::new(alloc, unnamed(StmtKind::Empty))?;
+    let no = Boxed::new(alloc, unnamed(StmtKind::Empty))?;
+    let yes = Boxed::new(alloc, unnamed(StmtKind::While(one(alloc), body)))?;
+    let choice = Boxed::new(alloc, unnamed(StmtKind::If(one(alloc), yes, Some(no))))?;
+    Ok(choice)
 }
 
 fn body(alloc: Global) -> Result<Stmt, NoMemory> {
@@ -183,5 +199,34 @@ fn a_statement_is_replaced(rt: HostRuntime) -> Result<(), Fail> {
     ];
     let found = letters == *b"ccceaee-" && places == [(4, 0), (4, 1), (5, 0), (5, 1)];
     assert!(rt; answers == wanted && found && next == 10);
+    Ok(())
+}
+
+#[test]
+fn an_else_stays_with_its_if(rt: HostRuntime) -> Result<(), Fail> {
+    let alloc = rt.alloc();
+    let open = open_choice(alloc)?;
+    let choice = choice(alloc)?;
+    let pair = Boxed::new(alloc, compound(alloc, 2)?)?;
+    let mut program = program(alloc)?;
+    // The `if` is 5, the `while` 8, what it repeats 9, and the second branch 10.
+    let answers = [
+        replace(alloc, &mut program, Name(5), choice.get()),
+        replace(alloc, &mut program, Name(8), open.get()),
+        replace(alloc, &mut program, Name(9), open.get()),
+        replace(alloc, &mut program, Name(10), open.get()),
+        replace(alloc, &mut program, Name(9), pair.get()),
+    ];
+    let next = program.next_name();
+    let letters = [5, 8, 9, 10, 11, 12, 13, 14].map(|name| letter(&program, name));
+    drop(program);
+    let wanted = [
+        Ok(()),
+        Err(EditFault::WrongKind(Name(8))),
+        Err(EditFault::WrongKind(Name(9))),
+        Ok(()),
+        Ok(()),
+    ];
+    assert!(rt; answers == wanted && letters == *b"sscseee-" && next == 14);
     Ok(())
 }
