@@ -1,14 +1,19 @@
-//! Commands.
-ghost use Rattle.std.specs.Prelude.{◌≡◌, ◌≤◌, length};
-ghost use Rattle.dice_command.specs.Command.{asked, command_of, by_keyword, alone, one_number, number_and_text, fits, is_side, IsWellRead};
+//! Commands: what a line is read as, with the text that it takes.
+ghost use Rattle.std.specs.Prelude.{◌≡◌, IfOk};
+ghost use Rattle.dice_command.specs.Line.{Load, Replace};
+ghost use Rattle.dice_command.specs.Command.{IsAskedFor, IsCommandOf, IsTold, IsWellRead, is_quit, takes_text};
+ghost use Rattle.dice_command.specs.declared.command.Command.TheVariants.{Bad};
 
-use crate::keyword::{Arguments, Keyword, keyword_of};
-use crate::words::{after_word, is_identifier, is_text, number_of, past_blanks, word_of};
+use crate::line::{LineCommand, line_command};
+use crate::reading::{read_program, read_statement};
+use dice_base::{Name, NoMemory};
+use pascal_parser::ParseFault;
+use pascal_scanner::ScanFault;
+use pascal_tree::Stmt;
+use program_tree::Program;
+use std::alloc::Global;
 
-/// A line of more bytes is no command.
-const LONGEST_LINE: usize = 4096;
-
-/// What is wrong with a line.
+/// What is wrong with a line, or with the text that it takes.
 #[derive(Clone, Copy, PartialEq, Eq)]
 pub enum CommandFault {
     /// It has more than 4,096 bytes.
@@ -18,20 +23,43 @@ pub enum CommandFault {
     NotACommand,
     /// No number from 1 to 1,000,000 stands where one is wanted.
     BadNumber,
+    /// Its text is not cut into tokens.
+    Scan(ScanFault),
+    /// The tokens of its text are no program, or no statement, within the levels that there are.
+    Parse(ParseFault),
 }
 
-/// What a line asks for.
-#[derive(Clone, Copy, PartialEq, Eq)]
-pub enum LineCommand<'a> {
+impl From<ScanFault> for CommandFault {
+    ghost use Rattle.dice_command.specs.declared.command.CommandFault.TheVariants.{Scan};
+
+    ghost from_gives = { λ scan fault. fault ≡ Scan scan };
+
+    fn from(fault: ScanFault) -> Self {
+        CommandFault::Scan(fault)
+    }
+}
+
+impl From<ParseFault> for CommandFault {
+    ghost use Rattle.dice_command.specs.declared.command.CommandFault.TheVariants.{Parse};
+
+    ghost from_gives = { λ parse fault. fault ≡ Parse parse };
+
+    fn from(fault: ParseFault) -> Self {
+        CommandFault::Parse(fault)
+    }
+}
+
+/// What is to be done. Trees are whole: a text that is not read is a command that is `Bad`.
+#[derive(Drop)]
+pub enum Command {
     /// Nothing: the line is empty, or all of it is spaces and tabs.
     Blank,
-    /// To load the program whose text stands in the lines that follow, up to a line `.`.
-    Load,
-    /// To list the program.
+    /// To load this program.
+    Load(Program),
+    /// To list the draft.
     List,
-    /// To replace the statement of this name, 1 to 1,000,000, by a text, which may be empty. Blanks at the end of the
-    /// line belong to the text.
-    Replace(u32, &'a [u8]),
+    /// To put this statement in the place of the one of this name, 1 to 1,000,000.
+    Replace(Name, Stmt),
     /// To put the edits into force.
     Apply,
     /// To run over so many gates, 1 to 1,000,000.
@@ -40,101 +68,98 @@ pub enum LineCommand<'a> {
     Quit,
     /// A command that is not built yet.
     Unbuilt,
-    /// The line is no command.
+    /// The line is no command, or its text is not read. The fault is never want of memory.
     Bad(CommandFault),
 }
 
-/// The command of a line, without the line's end.
-pub fn parse_command(line: &[u8]) -> LineCommand<'_>
-    ensures command { asked result ≡ command_of line.now }
-    ensures well_read { IsWellRead (asked result) }
-{
-    if line.len() > LONGEST_LINE {
-        return LineCommand::Bad(CommandFault::LineTooLong);
-    }
-    let word = word_of(line);
-    if word.is_empty() {
-        return LineCommand::Blank;
-    }
-    if !is_text(line) {
-        return LineCommand::Bad(CommandFault::NotACommand);
-    }
-    let rest = after_word(line);
-    match keyword_of(word) {
-        None => LineCommand::Bad(CommandFault::NotACommand),
-        Some(keyword) => with_arguments(keyword, rest),
-    }
-}
-
-fn with_arguments(keyword: Keyword, rest: &[u8]) -> LineCommand<'_>
-    requires { length rest.now ≤ 4096 }
-    ensures command { asked result ≡ by_keyword keyword rest.now }
-    ensures well_read { IsWellRead (asked result) }
-{
-    match keyword {
-        Keyword::Load => alone(LineCommand::Load, rest),
-        Keyword::List => alone(LineCommand::List, rest),
-        Keyword::Replace => replace(rest),
-        Keyword::Apply => alone(LineCommand::Apply, rest),
-        Keyword::Run => run(rest),
-        Keyword::Quit => alone(LineCommand::Quit, rest),
-        Keyword::Unbuilt(arguments) if fits(arguments, rest) => LineCommand::Unbuilt,
-        Keyword::Unbuilt(_) => LineCommand::Bad(CommandFault::NotACommand),
-    }
-}
-
-fn alone<'a>(command: LineCommand<'a>, rest: &[u8]) -> LineCommand<'a>
-    ensures command { asked result ≡ alone (asked command.entry) rest.now }
-    ensures well_read { IsWellRead (asked command.entry) → IsWellRead (asked result) }
-{
-    if word_of(rest).is_empty() {
-        command
-    } else {
-        LineCommand::Bad(CommandFault::NotACommand)
-    }
-}
-
-fn run(rest: &[u8]) -> LineCommand<'_>
-    ensures command { asked result ≡ one_number rest.now }
-    ensures well_read { IsWellRead (asked result) }
-{
-    if !word_of(after_word(rest)).is_empty() {
-        return LineCommand::Bad(CommandFault::NotACommand);
-    }
-    match number_of(word_of(rest)) {
-        Some(gates) => LineCommand::Run(gates),
-        None => LineCommand::Bad(CommandFault::BadNumber),
-    }
-}
-
-fn replace(rest: &[u8]) -> LineCommand<'_>
-    requires { length rest.now ≤ 4096 }
-    ensures command { asked result ≡ number_and_text rest.now }
-    ensures well_read { IsWellRead (asked result) }
-{
-    match number_of(word_of(rest)) {
-        Some(name) => LineCommand::Replace(name, past_blanks(after_word(rest))),
-        None => LineCommand::Bad(CommandFault::BadNumber),
-    }
-}
-
-// Whether a command that is not built yet may have this behind its first word.
-fn fits(arguments: Arguments, rest: &[u8]) -> bool
-    ensures { result ≡ fits arguments rest.now }
-{
-    match arguments {
-        Arguments::Nothing => word_of(rest).is_empty(),
-        Arguments::Number => word_of(after_word(rest)).is_empty(),
-        Arguments::Text => true,
-        Arguments::Side => is_side(word_of(rest)),
-        Arguments::Identifier => {
-            is_identifier(word_of(rest)) && word_of(after_word(after_word(rest))).is_empty()
+impl Command {
+    /// Whether the script ends here.
+    pub fn is_quit(&self) -> bool
+        ensures { result ≡ is_quit self.now }
+    {
+        match self {
+            Command::Quit => true,
+            Command::Blank
+            | Command::Load(_)
+            | Command::List
+            | Command::Replace(_, _)
+            | Command::Apply
+            | Command::Run(_)
+            | Command::Unbuilt
+            | Command::Bad(_) => false,
         }
     }
 }
 
-fn is_side(word: &[u8]) -> bool
-    ensures { result ≡ is_side word.now }
+/// Whether a line, without its end, takes the lines behind it as its text, up to a line `.`: `load` alone.
+pub fn takes_text(line: &[u8]) -> bool
+    ensures { result ≡ takes_text line.now }
 {
-    word == b"before".as_slice() || word == b"after".as_slice() || word == b"first".as_slice()
+    match line_command(line) {
+        LineCommand::Load => true,
+        LineCommand::Blank
+        | LineCommand::List
+        | LineCommand::Replace(_, _)
+        | LineCommand::Apply
+        | LineCommand::Run(_)
+        | LineCommand::Quit
+        | LineCommand::Unbuilt
+        | LineCommand::Bad(_) => false,
+    }
+}
+
+/// The command of a line, without the line's end, and of the text that it takes, if it takes one.
+pub fn parse_command(alloc: Global, line: &[u8], body: &[u8]) -> Result<Command, NoMemory>
+    ensures command { IfOk result (λ c. IsCommandOf line.now body.now c) }
+    ensures well_read { IfOk result (λ c. IsWellRead c) }
+{
+    match line_command(line) {
+        LineCommand::Blank => Ok(Command::Blank),
+        LineCommand::Load => load(alloc, body),
+        LineCommand::List => Ok(Command::List),
+        LineCommand::Replace(name, text) => replace(alloc, name, text),
+        LineCommand::Apply => Ok(Command::Apply),
+        LineCommand::Run(gates) => Ok(Command::Run(gates)),
+        LineCommand::Quit => Ok(Command::Quit),
+        LineCommand::Unbuilt => Ok(Command::Unbuilt),
+        LineCommand::Bad(fault) => refused(fault),
+    }
+}
+
+fn load(alloc: Global, body: &[u8]) -> Result<Command, NoMemory>
+    ensures command { IfOk result (λ c. IsAskedFor Load body.now c) }
+    ensures well_read { IfOk result (λ c. IsWellRead c) }
+{
+    match read_program(alloc, body) {
+        Ok(program) => Ok(Command::Load(program)),
+        Err(fault) => refused(fault),
+    }
+}
+
+fn replace(alloc: Global, name: u32, text: &[u8]) -> Result<Command, NoMemory>
+    requires { (1 ≤ name) × (name ≤ 1000000) }
+    ensures command { IfOk result (λ c. IsAskedFor (Replace name text.now) [] c) }
+    ensures well_read { IfOk result (λ c. IsWellRead c) }
+{
+    match read_statement(alloc, text) {
+        Ok(stmt) => Ok(Command::Replace(Name(name), stmt)),
+        Err(fault) => refused(fault),
+    }
+}
+
+// Want of memory is no fault of a line.
+fn refused(fault: CommandFault) -> Result<Command, NoMemory>
+    ensures command { IfOk result (λ c. c ≡ Bad fault) }
+    ensures told { IfOk result (λ c. IsTold fault) }
+{
+    match fault {
+        CommandFault::Scan(ScanFault::NoMemory) | CommandFault::Parse(ParseFault::NoMemory) => {
+            Err(NoMemory)
+        }
+        CommandFault::LineTooLong
+        | CommandFault::NotACommand
+        | CommandFault::BadNumber
+        | CommandFault::Scan(_)
+        | CommandFault::Parse(_) => Ok(Command::Bad(fault)),
+    }
 }

@@ -1,8 +1,10 @@
-//! The command language of a script: from a line to its command.
+//! The command language of a script: from a line, and the text behind it, to its command.
 #![tactic(auto)]
 
 mod command;
 mod keyword;
+mod line;
+mod reading;
 mod words;
 
-pub use command::{CommandFault, LineCommand, parse_command};
+pub use command::{Command, CommandFault, parse_command, takes_text};

@@ -8,25 +8,28 @@ use Rattle.dice_base.specs.Lines.{NoFeed, NoFeeds, joined, some_line}
 use Rattle.script_lines.specs.Front.{strip}
 use Rattle.script_lines.specs.Took.{LineRead, WholeLine, LastLine, PastRoom, Broken}
 use Rattle.pdp11_machine.specs.State.{MachineState}
+use Rattle.dice_command.specs.declared.command.Command.{Command}
 use Rattle.dice_session.specs.declared.session.Session.{Session}
-use Rattle.dice_session.specs.World.{World, Over, Command, ReadsAll, empty_world, reply_of, world_after, missing_end, transcript_of, last_world}
+use Rattle.dice_session.specs.World.{World, empty_world, world_after, transcript_of, last_world}
 use Rattle.dice_session.specs.SessionOf.{IsSessionOf}
 use Rattle.dice_session.specs.Simulates.{Simulates}
 use Rattle.dice_program.specs.declared.serve.Fault.{Fault}
 use Rattle.dice_program.specs.declared.serve.Fault.TheVariants.{ReadFault, WriteFault, NoMemory}
 use Rattle.dice_program.specs.Ends.{Input, Output}
+use Rattle.dice_program.specs.Entries.{Behind, line_entries, line_position, entries_from, position_after, whole_entries, position_of, open_entries, script_entries, AreCommandsOf}
+use Rattle.dice_program.specs.Kept.{HasText}
 use Rattle.dice_program.specs.Script.{ended_lines, lines_in, acted_within, acted, IsTooLong}
 use Rattle.dice_program.specs.declared.limits.TheConstants.{MAX_BYTES, MAX_LINES}
 use Rattle.dice_program.specs.Taking.{ScriptPart, TakesAll, Begins}
-use Rattle.dice_program.specs.Turns.{Answered, CutShort, AnsweredAll, AnswersSome, Unanswered, TakesOneLine, IsMore}
+use Rattle.dice_program.specs.Turns.{AnsweredAll, CutIn, AnswersAll, Unanswered, TakesOneLine, IsMore}
 use Rattle.dice_program.specs.Top.{IsDone, IsTooMany, IsBroken, IsCut, IsShort, Serves}
-use Rattle.dice_program.proofs.Pieces.{ended-joined, ended-plain, lines-joined, lines-plain, acted-last, acted-past, acted-none, whole-more, last-more, few-plain, few-whole, few-past}
-use Rattle.dice_program.proofs.Commands.{after-append, replies-append, reads-append, after-push, replies-push, reads-push, nothings, over-after, over-replies, over-reads, over-missing}
-use Rattle.dice_program.proofs.Serving.{Serving, longer-lines, so_far, known-end, part_of, takes-lines}
+use Rattle.dice_program.proofs.Pieces.{ended-joined, ended-plain, ended-all, last-all, lines-joined, lines-plain, acted-last, acted-past, acted-none, whole-more, last-more, few-plain, few-whole, few-past}
+use Rattle.dice_program.proofs.Commands.{after-append, replies-append, commands-append, commands-one, after-push, entries-append, position-append, quit-entries}
+use Rattle.dice_program.proofs.Serving.{Serving, longer-lines, lines-push, whole-push, at-push, so_far, known-end, part_of, takes-lines}
 
 -- the script begins with the lines that were read, and so with their commands
 begins : (lines : List (List ℕ)) (commands : List Command) (rest : List ℕ) (room more : ℕ) → NoFeeds lines → MAX_BYTES ≡ length (joined lines) + room
-    → MAX_LINES - 1 ≡ length lines + more → ReadsAll empty_world (map strip lines) commands → Begins (joined lines ++ rest) commands
+    → MAX_LINES - 1 ≡ length lines + more → AreCommandsOf (whole_entries (map strip lines)) commands → Begins (joined lines ++ rest) commands
 begins lines commands rest room more plain space count read = record {
   lines = map strip lines;
   rest = acted_within more room rest;
@@ -35,11 +38,11 @@ begins lines commands rest room more plain space count read = record {
 }
 
 -- memory was refused, and no more than one line was taken behind those that are answered
-pub short : (session : Session) (machine : MachineState) (turns room : ℕ) (left mid now held held_mid held_now : Option (List ℕ)) (i i' o o' : ℕ)
-    → (s : Serving session machine turns room left mid held held_mid) → turns ≤ MAX_LINES - 1
+pub short : (session : Session) (machine : MachineState) (text : Option (List ℕ)) (turns room : ℕ) (left mid now held held_mid held_now : Option (List ℕ)) (i i' o o' : ℕ)
+    → (s : Serving session machine text turns room left mid held held_mid) → turns ≤ MAX_LINES - 1
     → (x : List ℕ) → Consumes mid now x → length (lines_in x) ≤ 1 → Keeps held_mid held_now
     → IsShort (record { left = left; left_then = now; faults = i; faults_then = i' }) (record { held = held; held_then = held_now; faults = o; faults_then = o' })
-short session machine turns room left mid now held held_mid held_now i i' o o' s few x took one kept =
+short session machine text turns room left mid now held held_mid held_now i i' o o' s few x took one kept =
     let part = part_of left now (joined s.lines ++ x) (Consumes-trans left mid now _ _ s.took took) in
     let more = MAX_LINES - 1 - turns in
     record {
@@ -74,54 +77,48 @@ short-start left held i i' o o' =
     }
 
 -- `quit` was read
-pub done-quit : (session session_now : Session) (machine machine_now : MachineState) (turns : ℕ) (left held held_mid held_now : Option (List ℕ)) (n : LineRead) (i i' o o' : ℕ)
-    → (s : Serving session machine turns n.room left n.left held held_mid) → (r : WholeLine n)
-    → (t : Answered (world_after empty_world s.commands) (strip r.line) session_now machine_now held_mid held_now)
-    → (reply_of (world_after empty_world s.commands) t.command).world.mode ≡ Over → turns + 1 ≤ MAX_LINES - 1
+pub done-quit : (session session_now : Session) (machine machine_now : MachineState) (text : Option (List ℕ)) (turns : ℕ) (left held held_mid held_now : Option (List ℕ)) (n : LineRead) (i i' o o' : ℕ)
+    → (s : Serving session machine text turns n.room left n.left held held_mid) → (r : WholeLine n)
+    → (t : AnsweredAll (world_after empty_world s.commands) (line_entries (position_of (map strip s.lines)) (strip r.line)) session_now machine_now held_mid held_now)
+    → line_position (position_of (map strip s.lines)) (strip r.line) ≡ Behind → turns + 1 ≤ MAX_LINES - 1
     → (stands : (w : World) → IsSessionOf w session_now machine_now → Simulates w machine_now)
     → IsDone (record { left = left; left_then = n.left_then; faults = i; faults_then = i' }) (record { held = held; held_then = held_now; faults = o; faults_then = o' }) machine_now
-done-quit session session_now machine machine_now turns left held held_mid held_now n i i' o o' s r t over few stands =
-    let c = t.command in
-    let cs = s.commands ++ c ∷ [] in
+done-quit session session_now machine machine_now text turns left held held_mid held_now n i i' o o' s r t over few stands =
+    let cs = s.commands ++ t.commands in
     let ls = s.lines ++ r.line ∷ [] in
-    let longer = longer-lines session machine turns left held held_mid n s r c t.reads in
+    let longer = longer-lines session machine text turns left held held_mid n s r in
     let more = MAX_LINES - 1 - (turns + 1) in
     let part = part_of left n.left_then (joined ls) longer.took in
     let rest = acted_within more n.room_then part.rest in
-    let all = cs ++ nothings rest in
-    let then : (last_world cs).mode ≡ Over = ap (λ w. w.mode) (after-push empty_world s.commands c) ∙ over in
-    let last : last_world all ≡ last_world cs = after-append empty_world cs (nothings rest) ∙ over-after (last_world cs) rest in
-    let told : transcript_of all ≡ transcript_of cs =
-    replies-append empty_world cs (nothings rest) ∙ ap (λ r. transcript_of cs ++ r) (over-replies (last_world cs) rest) ∙ append-nil (transcript_of cs) in
+    let then : position_of (map strip ls) ≡ Behind = at-push s.lines r.line ∙ over in
     let acts : acted (joined ls ++ part.rest) ≡ map strip ls ++ rest =
     so_far ls part.rest n.room_then more longer.plain longer.space (omega (arith, length-append s.lines (r.line ∷ []), s.count, few)) in
+    let all : script_entries (acted (joined ls ++ part.rest)) ≡ whole_entries (map strip s.lines) ++ line_entries (position_of (map strip s.lines)) (strip r.line) =
+    ap script_entries acts ∙ quit-entries (map strip ls) rest then ∙ whole-push s.lines r.line in
     record {
       part = part;
-      commands = all;
-      read = record {
-        front = all;
-        last = [];
-        all = sym (append-nil all);
-        read = subst (λ xs. ReadsAll empty_world xs all) (sym acts) (reads-append empty_world (map strip ls) rest cs (nothings rest) longer.read (over-reads (last_world cs) rest then));
-        ended = subst (λ xs. ReadsAll (last_world all) xs []) (sym (over-missing (last_world all).mode (ap (λ w. w.mode) last ∙ then))) tt;
-      };
-      wrote = subst (Appends held held_now) (sym (told ∙ replies-push empty_world s.commands c)) (Appends-trans held held_mid held_now _ _ s.wrote t.wrote);
-      stands = subst (λ w. Simulates w machine_now) (sym (last ∙ after-push empty_world s.commands c)) (stands _ t.lives);
+      commands = cs;
+      read = subst (λ es. AreCommandsOf es cs) (sym all) (commands-append _ _ s.commands t.commands s.read t.reads);
+      wrote = subst (Appends held held_now) (sym (replies-append empty_world s.commands t.commands)) (Appends-trans held held_mid held_now _ _ s.wrote t.wrote);
+      stands = subst (λ w. Simulates w machine_now) (sym (after-append empty_world s.commands t.commands)) (stands _ t.lives);
       ended = inl (record {
-        before = s.commands;
-        quit = c;
-        only = takes-lines ls cs longer.plain longer.read;
+        before = map strip s.lines;
+        quit = strip r.line;
+        lines = ended-all ls longer.plain ∙ lines-push s.lines r.line;
+        exact = last-all ls longer.plain;
         going = s.going;
-        over = then;
+        over = sym (ap position_of (lines-push s.lines r.line)) ∙ then;
       });
     }
 
 -- the whole script was read and obeyed, but for a text that is still open
-pub record AtClose (session : Session) (machine : MachineState) (left left_now held held_now : Option (List ℕ)) : Type 0 where
+pub record AtClose
+    (session : Session) (machine : MachineState) (text left left_now held held_now : Option (List ℕ)) : Type 0 where
   pub part : ScriptPart left left_now
   pub whole : TakesAll part
   pub commands : List Command
-  pub read : ReadsAll empty_world (acted part.script) commands
+  pub read : AreCommandsOf (whole_entries (acted part.script)) commands
+  pub open_text : HasText (position_of (acted part.script)) text
   pub all : lines_in part.taken ≡ acted part.script ++ []
   pub wrote : Appends held held_now (transcript_of commands)
   pub lives : IsSessionOf (last_world commands) session machine
@@ -159,49 +156,52 @@ whole_part left left_now script took ended = record {
   took = took;
 }
 
-pub at-close : (session session_now : Session) (machine machine_now : MachineState) (turns : ℕ) (left held held_mid held_now : Option (List ℕ)) (n : LineRead)
-    → (s : Serving session machine turns n.room left n.left held held_mid) → (r : LastLine n) → turns + length (some_line r.line) ≤ MAX_LINES - 1
-    → AnsweredAll (world_after empty_world s.commands) (some_line r.line) session_now machine_now held_mid held_now
-    → AtClose session_now machine_now left n.left_then held held_now
-at-close session session_now machine machine_now turns left held held_mid held_now n s r few a =
+pub at-close : (session session_now : Session) (machine machine_now : MachineState) (text text_now : Option (List ℕ)) (turns : ℕ) (left held held_mid held_now : Option (List ℕ)) (n : LineRead)
+    → (s : Serving session machine text turns n.room left n.left held held_mid) → (r : LastLine n) → turns + length (some_line r.line) ≤ MAX_LINES - 1
+    → AnsweredAll (world_after empty_world s.commands) (entries_from (position_of (map strip s.lines)) (some_line r.line)) session_now machine_now held_mid held_now
+    → HasText (position_after (position_of (map strip s.lines)) (some_line r.line)) text_now
+    → AtClose session_now machine_now text_now left n.left_then held held_now
+at-close session session_now machine machine_now text text_now turns left held held_mid held_now n s r few a kept =
     let cs = s.commands ++ a.commands in
+    let ls = map strip s.lines in
     let more = MAX_LINES - 1 - turns in
     let count : MAX_LINES - 1 ≡ length s.lines + more = omega (arith, s.count, few) in
     let fits : length r.line ≤ n.room = omega (arith, r.space) in
     let less : length (some_line r.line) ≤ more = omega (arith, few) in
-    let acts : acted (joined s.lines ++ r.line) ≡ map strip s.lines ++ some_line r.line =
+    let acts : acted (joined s.lines ++ r.line) ≡ ls ++ some_line r.line =
     last-acted s.lines r.line n.room more s.plain s.space count r.plain fits less in
     record {
       part = whole_part left n.left_then (joined s.lines ++ r.line) (Consumes-trans left n.left n.left_then _ _ s.took r.took) r.ended;
       whole = record { all = refl; ended = r.ended; fits = last-short s.lines r.line n.room more s.plain s.space count r.plain fits less };
       commands = cs;
-      read = subst (λ xs. ReadsAll empty_world xs cs) (sym acts) (reads-append empty_world (map strip s.lines) (some_line r.line) s.commands a.commands s.read a.reads);
-      all = lines-joined s.lines r.line s.plain ∙ ap (λ xs. map strip s.lines ++ xs) (lines-plain r.line r.plain) ∙ sym acts ∙ sym (append-nil _);
+      read = subst (λ es. AreCommandsOf es cs) (sym (ap whole_entries acts ∙ entries-append _ ls (some_line r.line))) (commands-append _ _ s.commands a.commands s.read a.reads);
+      open_text = subst (λ p. HasText p text_now) (sym (ap position_of acts ∙ position-append _ ls (some_line r.line))) kept;
+      all = lines-joined s.lines r.line s.plain ∙ ap (λ xs. ls ++ xs) (lines-plain r.line r.plain) ∙ sym acts ∙ sym (append-nil _);
       wrote = subst (Appends held held_now) (sym (replies-append empty_world s.commands a.commands)) (Appends-trans held held_mid held_now _ _ s.wrote a.wrote);
       lives = subst (λ w. IsSessionOf w session_now machine_now) (sym (after-append empty_world s.commands a.commands)) a.lives;
     }
 
 -- the text that was open is ended
-pub closed-done : (session session_now : Session) (machine machine_now : MachineState) (left now held held_mid held_now : Option (List ℕ)) (i i' o o' : ℕ)
-    → (e : AtClose session machine left now held held_mid) → AnsweredAll (last_world e.commands) (missing_end (last_world e.commands).mode) session_now machine_now held_mid held_now
+pub closed-done : (session session_now : Session) (machine machine_now : MachineState) (text left now held held_mid held_now : Option (List ℕ)) (i i' o o' : ℕ)
+    → (e : AtClose session machine text left now held held_mid) → AnsweredAll (last_world e.commands) (open_entries (position_of (acted e.part.script))) session_now machine_now held_mid held_now
     → (stands : (w : World) → IsSessionOf w session_now machine_now → Simulates w machine_now)
     → IsDone (record { left = left; left_then = now; faults = i; faults_then = i' }) (record { held = held; held_then = held_now; faults = o; faults_then = o' }) machine_now
-closed-done session session_now machine machine_now left now held held_mid held_now i i' o o' e a stands = record {
+closed-done session session_now machine machine_now text left now held held_mid held_now i i' o o' e a stands = record {
   part = e.part;
   commands = e.commands ++ a.commands;
-  read = record { front = e.commands; last = a.commands; all = refl; read = e.read; ended = a.reads };
+  read = commands-append _ _ e.commands a.commands e.read a.reads;
   wrote = subst (Appends held held_now) (sym (replies-append empty_world e.commands a.commands)) (Appends-trans held held_mid held_now _ _ e.wrote a.wrote);
   stands = subst (λ w. Simulates w machine_now) (sym (after-append empty_world e.commands a.commands)) (stands _ a.lives);
   ended = inr e.whole;
 }
 
-pub closed-fails : (fault : Fault) (session session_now : Session) (machine machine_now : MachineState) (left now held held_mid held_now : Option (List ℕ)) (i i' o o' : ℕ)
-    → (e : AtClose session machine left now held held_mid) → AnswersSome (Err fault) (last_world e.commands) (missing_end (last_world e.commands).mode) session_now machine_now held_mid held_now
+pub closed-fails : (fault : Fault) (session session_now : Session) (machine machine_now : MachineState) (text left now held held_mid held_now : Option (List ℕ)) (i i' o o' : ℕ)
+    → (e : AtClose session machine text left now held held_mid) → AnswersAll {A = Unit {0}} (Err fault) (last_world e.commands) (open_entries (position_of (acted e.part.script))) session_now machine_now held_mid held_now
     → (stands : (w : World) → IsSessionOf w session_now machine_now → Simulates w machine_now)
     → Serves (Err fault) (record { left = left; left_then = now; faults = i; faults_then = i' }) (record { held = held; held_then = held_now; faults = o; faults_then = o' }) machine_now
-closed-fails ReadFault session session_now machine machine_now left now held held_mid held_now i i' o o' e a stands = absurd a
-closed-fails WriteFault session session_now machine machine_now left now held held_mid held_now i i' o o' e a stands =
-    let cut = a.2 in
+closed-fails ReadFault session session_now machine machine_now text left now held held_mid held_now i i' o o' e a stands = absurd a
+closed-fails WriteFault session session_now machine machine_now text left now held held_mid held_now i i' o o' e a stands =
+    let cut = a.cut in
     record {
       part = e.part;
       commands = e.commands;
@@ -210,17 +210,13 @@ closed-fails WriteFault session session_now machine machine_now left now held he
         lines = acted e.part.script;
         rest = [];
         parts = sym (append-nil (acted e.part.script));
-        read = inr (
-          refl,
-          e.whole.fits,
-          record { front = e.commands; last = cut.command ∷ []; all = refl; read = e.read; ended = subst (λ xs. ReadsAll (last_world e.commands) xs (cut.command ∷ [])) (sym a.1) (cut.reads, tt) },
-        );
+        read = inr (refl, e.whole.fits, commands-append _ _ e.commands (cut.command ∷ []) e.read (commands-one _ a.last cut.command a.is cut.reads));
       };
       wrote = (cut.wrote.0, cut.wrote.1, Appends-trans held held_mid held_now _ _ e.wrote cut.wrote.2);
       stands = subst (λ w. Simulates w machine_now) (sym (after-push empty_world e.commands cut.command)) (stands _ cut.lives);
       stopped = inr e.whole;
     }
-closed-fails NoMemory session session_now machine machine_now left now held held_mid held_now i i' o o' e a stands = record {
+closed-fails NoMemory session session_now machine machine_now text left now held held_mid held_now i i' o o' e a stands = record {
   part = e.part;
   commands = e.commands;
   lines = acted e.part.script;
@@ -234,87 +230,90 @@ closed-fails NoMemory session session_now machine machine_now left now held held
 }
 
 -- a line was not answered whole
-pub cut-line : (session session_now : Session) (machine machine_now : MachineState) (turns : ℕ) (left held held_mid held_now : Option (List ℕ)) (n : LineRead) (i i' o o' : ℕ)
-    → (s : Serving session machine turns n.room left n.left held held_mid) → (r : WholeLine n)
-    → (t : CutShort (world_after empty_world s.commands) (strip r.line) session_now machine_now held_mid held_now)
+pub cut-line : (session session_now : Session) (machine machine_now : MachineState) (text : Option (List ℕ)) (turns : ℕ) (left held held_mid held_now : Option (List ℕ)) (n : LineRead) (i i' o o' : ℕ)
+    → (s : Serving session machine text turns n.room left n.left held held_mid) → (r : WholeLine n)
+    → (t : CutIn (world_after empty_world s.commands) (line_entries (position_of (map strip s.lines)) (strip r.line)) session_now machine_now held_mid held_now)
     → turns + 1 ≤ MAX_LINES - 1 → (stands : (w : World) → IsSessionOf w session_now machine_now → Simulates w machine_now)
     → IsCut (record { left = left; left_then = n.left_then; faults = i; faults_then = i' }) (record { held = held; held_then = held_now; faults = o; faults_then = o' }) machine_now
-cut-line session session_now machine machine_now turns left held held_mid held_now n i i' o o' s r t few stands =
-    let c = t.command in
+cut-line session session_now machine machine_now text turns left held held_mid held_now n i i' o o' s r t few stands =
+    let cut = t.cut in
+    let cs = s.commands ++ cut.command ∷ [] in
     let ls = s.lines ++ r.line ∷ [] in
-    let longer = longer-lines session machine turns left held held_mid n s r c t.reads in
+    let longer = longer-lines session machine text turns left held held_mid n s r in
     let part = part_of left n.left_then (joined ls) longer.took in
+    let read : AreCommandsOf (whole_entries (map strip ls)) cs =
+    subst (λ es. AreCommandsOf es cs) (sym (whole-push s.lines r.line)) (commands-append _ _ s.commands (cut.command ∷ []) s.read (commands-one _ t.last cut.command t.is cut.reads)) in
     record {
       part = part;
       commands = s.commands;
-      last = c;
-      begins = begins ls (s.commands ++ c ∷ []) part.rest n.room_then (MAX_LINES - 1 - (turns + 1)) longer.plain longer.space (omega (arith, length-append s.lines (r.line ∷ []), s.count, few)) longer.read;
-      wrote = (t.wrote.0, t.wrote.1, Appends-trans held held_mid held_now _ _ s.wrote t.wrote.2);
-      stands = subst (λ w. Simulates w machine_now) (sym (after-push empty_world s.commands c)) (stands _ t.lives);
-      stopped = inl (takes-lines ls (s.commands ++ c ∷ []) longer.plain longer.read);
+      last = cut.command;
+      begins = begins ls cs part.rest n.room_then (MAX_LINES - 1 - (turns + 1)) longer.plain longer.space (omega (arith, length-append s.lines (r.line ∷ []), s.count, few)) read;
+      wrote = (cut.wrote.0, cut.wrote.1, Appends-trans held held_mid held_now _ _ s.wrote cut.wrote.2);
+      stands = subst (λ w. Simulates w machine_now) (sym (after-push empty_world s.commands cut.command)) (stands _ cut.lives);
+      stopped = inl (takes-lines ls cs longer.plain read);
     }
 
-pub cut-end : (session session_now : Session) (machine machine_now : MachineState) (turns : ℕ) (left held held_mid held_now : Option (List ℕ)) (n : LineRead) (i i' o o' : ℕ)
-    → (s : Serving session machine turns n.room left n.left held held_mid) → (r : LastLine n)
-    → (last : List ℕ) → some_line r.line ≡ last ∷ []
-    → (t : CutShort (world_after empty_world s.commands) last session_now machine_now held_mid held_now)
+pub cut-end : (session session_now : Session) (machine machine_now : MachineState) (text : Option (List ℕ)) (turns : ℕ) (left held held_mid held_now : Option (List ℕ)) (n : LineRead) (i i' o o' : ℕ)
+    → (s : Serving session machine text turns n.room left n.left held held_mid) → (r : LastLine n)
+    → (t : CutIn (world_after empty_world s.commands) (entries_from (position_of (map strip s.lines)) (some_line r.line)) session_now machine_now held_mid held_now)
     → turns + length (some_line r.line) ≤ MAX_LINES - 1 → (stands : (w : World) → IsSessionOf w session_now machine_now → Simulates w machine_now)
     → IsCut (record { left = left; left_then = n.left_then; faults = i; faults_then = i' }) (record { held = held; held_then = held_now; faults = o; faults_then = o' }) machine_now
-cut-end session session_now machine machine_now turns left held held_mid held_now n i i' o o' s r last is t few stands =
-    let c = t.command in
+cut-end session session_now machine machine_now text turns left held held_mid held_now n i i' o o' s r t few stands =
+    let cut = t.cut in
+    let ls = map strip s.lines in
     let more = MAX_LINES - 1 - turns in
     let script = joined s.lines ++ r.line in
     let count : MAX_LINES - 1 ≡ length s.lines + more = omega (arith, s.count, few) in
     let fits : length r.line ≤ n.room = omega (arith, r.space) in
     let less : length (some_line r.line) ≤ more = omega (arith, few) in
-    let acts : acted script ≡ map strip s.lines ++ (last ∷ []) =
-    last-acted s.lines r.line n.room more s.plain s.space count r.plain fits less ∙ ap (λ xs. map strip s.lines ++ xs) is in
+    let acts : acted script ≡ ls ++ some_line r.line =
+    last-acted s.lines r.line n.room more s.plain s.space count r.plain fits less in
     record {
       part = whole_part left n.left_then script (Consumes-trans left n.left n.left_then _ _ s.took r.took) r.ended;
       commands = s.commands;
-      last = c;
+      last = cut.command;
       begins = record {
-        lines = map strip s.lines ++ last ∷ [];
+        lines = ls ++ some_line r.line;
         rest = [];
-        parts = acts ∙ sym (append-nil (map strip s.lines ++ last ∷ []));
-        read = inl (reads-push empty_world (map strip s.lines) last s.commands c s.read t.reads);
+        parts = acts ∙ sym (append-nil (ls ++ some_line r.line));
+        read = inl (subst (λ es. AreCommandsOf es (s.commands ++ cut.command ∷ [])) (sym (entries-append _ ls (some_line r.line))) (commands-append _ _ s.commands (cut.command ∷ []) s.read (commands-one _ t.last cut.command t.is cut.reads)));
       };
-      wrote = (t.wrote.0, t.wrote.1, Appends-trans held held_mid held_now _ _ s.wrote t.wrote.2);
-      stands = subst (λ w. Simulates w machine_now) (sym (after-push empty_world s.commands c)) (stands _ t.lives);
+      wrote = (cut.wrote.0, cut.wrote.1, Appends-trans held held_mid held_now _ _ s.wrote cut.wrote.2);
+      stands = subst (λ w. Simulates w machine_now) (sym (after-push empty_world s.commands cut.command)) (stands _ cut.lives);
       stopped = inr (record { all = refl; ended = r.ended; fits = last-short s.lines r.line n.room more s.plain s.space count r.plain fits less });
     }
 
-pub broken : (session session_now : Session) (machine machine_now : MachineState) (turns : ℕ) (left held held_mid held_now : Option (List ℕ)) (n : LineRead) (i i' o o' : ℕ)
-    → (s : Serving session machine turns n.room left n.left held held_mid) → Broken n → Unanswered (world_after empty_world s.commands) session_now machine_now held_mid held_now
+pub broken : (session session_now : Session) (machine machine_now : MachineState) (text : Option (List ℕ)) (turns : ℕ) (left held held_mid held_now : Option (List ℕ)) (n : LineRead) (i i' o o' : ℕ)
+    → (s : Serving session machine text turns n.room left n.left held held_mid) → Broken n → Unanswered (world_after empty_world s.commands) session_now machine_now held_mid held_now
     → (stands : (w : World) → IsSessionOf w session_now machine_now → Simulates w machine_now)
     → IsBroken (record { left = left; left_then = n.left_then; faults = i; faults_then = i' }) (record { held = held; held_then = held_now; faults = o; faults_then = o' }) machine_now
-broken session session_now machine machine_now turns left held held_mid held_now n i i' o o' s b u stands =
+broken session session_now machine machine_now text turns left held held_mid held_now n i i' o o' s b u stands =
     let whole : ended_lines (joined s.lines ++ b.line) ≡ map strip s.lines =
     ended-joined s.lines b.line s.plain ∙ ap (λ x. map strip s.lines ++ x) (ended-plain b.line b.plain) ∙ append-nil (map strip s.lines) in
     record {
       taken = joined s.lines ++ b.line;
       took = Consumes-trans left n.left n.left_then _ _ s.took b.took;
       commands = s.commands;
-      read = subst (λ xs. ReadsAll empty_world xs s.commands) (sym whole) s.read;
+      read = subst (λ ls. AreCommandsOf (whole_entries ls) s.commands) (sym whole) s.read;
       wrote = Appends-kept held held_mid held_now _ s.wrote u.kept;
       stands = stands _ u.lives;
     }
 
 -- where nothing more is acted on: behind the lines that are answered, this was taken
-stops : (session session_now : Session) (machine machine_now : MachineState) (turns room : ℕ) (left mid now held held_mid held_now : Option (List ℕ)) (i i' o o' : ℕ)
-    → (s : Serving session machine turns room left mid held held_mid) → (x : List ℕ) → Consumes mid now x
+stops : (session session_now : Session) (machine machine_now : MachineState) (text : Option (List ℕ)) (turns room : ℕ) (left mid now held held_mid held_now : Option (List ℕ)) (i i' o o' : ℕ)
+    → (s : Serving session machine text turns room left mid held held_mid) → (x : List ℕ) → Consumes mid now x
     → ((rest : List ℕ) → acted (joined s.lines ++ (x ++ rest)) ≡ map strip s.lines)
     → Unanswered (world_after empty_world s.commands) session_now machine_now held_mid held_now
     → (stands : (w : World) → IsSessionOf w session_now machine_now → Simulates w machine_now)
     → IsTooLong (joined s.lines ++ x) → length (joined s.lines ++ x) ≤ MAX_BYTES + 1 → length (lines_in x) ≤ 1 → turns ≤ MAX_LINES - 1
     → IsTooMany (record { left = left; left_then = now; faults = i; faults_then = i' }) (record { held = held; held_then = held_now; faults = o; faults_then = o' }) machine_now
-stops session session_now machine machine_now turns room left mid now held held_mid held_now i i' o o' s x took acts u stands long bytes one few =
+stops session session_now machine machine_now text turns room left mid now held held_mid held_now i i' o o' s x took acts u stands long bytes one few =
     let part = part_of left now (joined s.lines ++ x) (Consumes-trans left mid now _ _ s.took took) in
     let all : acted part.script ≡ map strip s.lines = ap acted (append_assoc (joined s.lines) x part.rest) ∙ acts part.rest in
     record {
       part = part;
       commands = s.commands;
-      read = subst (λ xs. ReadsAll empty_world xs s.commands) (sym all) s.read;
+      read = subst (λ ls. AreCommandsOf (whole_entries ls) s.commands) (sym all) s.read;
       wrote = Appends-kept held held_mid held_now _ s.wrote u.kept;
       stands = stands _ u.lives;
       long = record {
@@ -322,14 +321,14 @@ stops session session_now machine machine_now turns room left mid now held held_
         bytes = bytes;
         lines = omega (arith, ap length (lines-joined s.lines x s.plain), length-append (map strip s.lines) (lines_in x), length-map s.lines strip, s.count, one, few);
       };
-      going = s.going;
+      going = λ over. s.going (sym (ap position_of all) ∙ over);
     }
 
-pub too-far : (session session_now : Session) (machine machine_now : MachineState) (turns : ℕ) (left held held_mid held_now : Option (List ℕ)) (n : LineRead) (i i' o o' : ℕ)
-    → (s : Serving session machine turns n.room left n.left held held_mid) → PastRoom n → turns ≤ MAX_LINES - 1 → Unanswered (world_after empty_world s.commands) session_now machine_now held_mid held_now
+pub too-far : (session session_now : Session) (machine machine_now : MachineState) (text : Option (List ℕ)) (turns : ℕ) (left held held_mid held_now : Option (List ℕ)) (n : LineRead) (i i' o o' : ℕ)
+    → (s : Serving session machine text turns n.room left n.left held held_mid) → PastRoom n → turns ≤ MAX_LINES - 1 → Unanswered (world_after empty_world s.commands) session_now machine_now held_mid held_now
     → (stands : (w : World) → IsSessionOf w session_now machine_now → Simulates w machine_now)
     → IsTooMany (record { left = left; left_then = n.left_then; faults = i; faults_then = i' }) (record { held = held; held_then = held_now; faults = o; faults_then = o' }) machine_now
-too-far session session_now machine machine_now turns left held held_mid held_now n i i' o o' s p few u stands =
+too-far session session_now machine machine_now text turns left held held_mid held_now n i i' o o' s p few u stands =
     let more = MAX_LINES - 1 - turns in
     let x = p.line ++ p.byte ∷ [] in
     let acts : (rest : List ℕ) → acted (joined s.lines ++ (x ++ rest)) ≡ map strip s.lines = λ rest.
@@ -338,7 +337,7 @@ too-far session session_now machine machine_now turns left held held_mid held_no
     ∙ ap (λ k. map strip s.lines ++ acted_within more k (p.line ++ p.byte ∷ rest)) p.space
     ∙ ap (λ y. map strip s.lines ++ y) (acted-past p.line rest p.byte more p.plain) ∙ append-nil (map strip s.lines) in
     let size : length (joined s.lines ++ x) ≡ MAX_BYTES + 1 = omega (arith, length-append (joined s.lines) x, length-append p.line (p.byte ∷ []), s.space, p.space) in
-    stops session session_now machine machine_now turns n.room left n.left n.left_then held held_mid held_now i i' o o' s x p.took acts u stands
+    stops session session_now machine machine_now text turns n.room left n.left n.left_then held held_mid held_now i i' o o' s x p.took acts u stands
     (inl (omega (arith, size))) (omega (arith, size)) (few-past p.line p.byte p.plain) few
 
 -- a line more than there may be
@@ -351,23 +350,23 @@ full : (lines : List (List ℕ)) (x : List ℕ) (room : ℕ) → NoFeeds lines �
 full lines x room plain space count =
     so_far lines x room 0 plain space (omega (arith, count)) ∙ ap (λ r. map strip lines ++ r) (acted-none x room) ∙ append-nil (map strip lines)
 
-pub too-many : (session session_now : Session) (machine machine_now : MachineState) (turns : ℕ) (left held held_mid held_now : Option (List ℕ)) (n : LineRead) (i i' o o' : ℕ)
-    → (s : Serving session machine turns n.room left n.left held held_mid) → IsMore n → turns ≡ MAX_LINES - 1 → Unanswered (world_after empty_world s.commands) session_now machine_now held_mid held_now
+pub too-many : (session session_now : Session) (machine machine_now : MachineState) (text : Option (List ℕ)) (turns : ℕ) (left held held_mid held_now : Option (List ℕ)) (n : LineRead) (i i' o o' : ℕ)
+    → (s : Serving session machine text turns n.room left n.left held held_mid) → IsMore n → turns ≡ MAX_LINES - 1 → Unanswered (world_after empty_world s.commands) session_now machine_now held_mid held_now
     → (stands : (w : World) → IsSessionOf w session_now machine_now → Simulates w machine_now)
     → IsTooMany (record { left = left; left_then = n.left_then; faults = i; faults_then = i' }) (record { held = held; held_then = held_now; faults = o; faults_then = o' }) machine_now
-too-many session session_now machine machine_now turns left held held_mid held_now n i i' o o' s more few u stands =
+too-many session session_now machine machine_now text turns left held held_mid held_now n i i' o o' s more few u stands =
     let count : length s.lines ≡ MAX_LINES - 1 = s.count ∙ few in
     elim more [
-      | inl far ↦ too-far session session_now machine machine_now turns left held held_mid held_now n i i' o o' s far (omega (arith, few)) u stands
+      | inl far ↦ too-far session session_now machine machine_now text turns left held held_mid held_now n i i' o o' s far (omega (arith, few)) u stands
       | inr other ↦ elim other [
         | inl whole ↦
             let x = whole.line ++ 10 ∷ [] in
-            stops session session_now machine machine_now turns n.room left n.left n.left_then held held_mid held_now i i' o o' s x whole.took
+            stops session session_now machine machine_now text turns n.room left n.left n.left_then held held_mid held_now i i' o o' s x whole.took
             (λ rest. full s.lines (x ++ rest) n.room s.plain s.space count) u stands (one-more s.lines x s.plain count (whole-more whole.line [] whole.plain))
             (omega (arith, length-append (joined s.lines) x, length-append whole.line (10 ∷ []), s.space, whole.space)) (few-whole whole.line whole.plain) (omega (arith, few))
         | inr last ↦
             let r = last.0 in
-            stops session session_now machine machine_now turns n.room left n.left n.left_then held held_mid held_now i i' o o' s r.line r.took
+            stops session session_now machine machine_now text turns n.room left n.left n.left_then held held_mid held_now i i' o o' s r.line r.took
             (λ rest. full s.lines (r.line ++ rest) n.room s.plain s.space count) u stands (one-more s.lines r.line s.plain count (last-more r.line r.plain last.1))
             (omega (arith, length-append (joined s.lines) r.line, s.space, r.space)) (few-plain r.line r.plain) (omega (arith, few))
       ]

@@ -10,32 +10,38 @@ use Rattle.script_lines.specs.Front.{strip}
 use Rattle.script_lines.specs.Took.{LineRead, WholeLine}
 use Rattle.pdp11_machine.specs.State.{MachineState}
 use Rattle.dice_session.specs.declared.session.Session.{Session}
-use Rattle.dice_session.specs.World.{Over, Command, ReadsAll, Reads, empty_world, reply_of, replies_from, world_after}
+use Rattle.dice_command.specs.declared.command.Command.{Command}
+use Rattle.dice_session.specs.World.{empty_world, replies_from, world_after}
 use Rattle.dice_session.specs.SessionOf.{IsSessionOf}
 use Rattle.dice_program.specs.Script.{acted_within, acted}
 use Rattle.dice_program.specs.declared.limits.TheConstants.{MAX_BYTES, MAX_LINES}
-use Rattle.dice_program.specs.Turns.{Answered}
+use Rattle.dice_program.specs.Entries.{Position, Between, Behind, line_entries, line_position, whole_entries, position_of, HasQuit, AreCommandsOf}
+use Rattle.dice_program.specs.Kept.{HasText}
+use Rattle.dice_program.specs.Turns.{AnsweredAll}
 use Rattle.dice_program.specs.Taking.{IsScript, ScriptPart, TakesOnly}
 use Rattle.dice_program.proofs.Pieces.{acted-joined, ended-all, last-all}
-use Rattle.dice_program.proofs.Commands.{after-push, replies-push, reads-push}
+use Rattle.dice_program.proofs.Commands.{after-append, replies-append, commands-append, entries-push, position-push}
 
--- so many lines were read, obeyed and answered
-pub record Serving (session : Session) (machine : MachineState) (turns room : ℕ) (left left_now held held_now : Option (List ℕ)) : Type 0 where
+-- so many lines were read; the commands that they make whole are carried out and answered
+pub record Serving
+    (session : Session) (machine : MachineState) (text : Option (List ℕ)) (turns room : ℕ)
+    (left left_now held held_now : Option (List ℕ)) : Type 0 where
   pub lines : List (List ℕ)
   pub commands : List Command
   pub plain : NoFeeds lines
   pub count : length lines ≡ turns
   pub space : MAX_BYTES ≡ length (joined lines) + room
   pub took : Consumes left left_now (joined lines)
-  pub read : ReadsAll empty_world (map strip lines) commands
+  pub read : AreCommandsOf (whole_entries (map strip lines)) commands
   pub wrote : Appends held held_now (replies_from empty_world commands)
   pub lives : IsSessionOf (world_after empty_world commands) session machine
-  pub going : (world_after empty_world commands).mode ≡ Over → ⊥
+  pub open_text : HasText (position_of (map strip lines)) text
+  pub going : HasQuit (map strip lines) → ⊥
 
-pub empty-going : empty_world.mode ≡ Over → ⊥
-empty-going e = absurd cc
+between-going : Between ≡ Behind → ⊥
+between-going e = absurd cc
 
-pub serving-start : (session : Session) (machine : MachineState) (left held : Option (List ℕ)) → IsSessionOf empty_world session machine → Serving session machine 0 MAX_BYTES left left held held
+pub serving-start : (session : Session) (machine : MachineState) (left held : Option (List ℕ)) → IsSessionOf empty_world session machine → Serving session machine None 0 MAX_BYTES left left held held
 serving-start session machine left held lives = record {
   lines = [];
   commands = [];
@@ -46,49 +52,59 @@ serving-start session machine left held lives = record {
   read = tt;
   wrote = Appends-nil held;
   lives = lives;
-  going = empty-going;
+  open_text = refl;
+  going = between-going;
 }
 
--- lines and commands with one more
-pub record Longer (lines : List (List ℕ)) (commands : List Command) (session : Session) (machine : MachineState) (room : ℕ) (left left_now held held_now : Option (List ℕ)) : Type 0 where
+-- the lines with one more
+pub record Longer (lines : List (List ℕ)) (room : ℕ) (left left_now : Option (List ℕ)) : Type 0 where
   pub plain : NoFeeds lines
   pub space : MAX_BYTES ≡ length (joined lines) + room
   pub took : Consumes left left_now (joined lines)
-  pub read : ReadsAll empty_world (map strip lines) commands
 
-pub longer-lines : (session : Session) (machine : MachineState) (turns : ℕ) (left held held_now : Option (List ℕ)) (n : LineRead)
-    → (s : Serving session machine turns n.room left n.left held held_now) → (r : WholeLine n) → (c : Command)
-    → Reads (world_after empty_world s.commands).mode (strip r.line) c
-    → Longer (s.lines ++ r.line ∷ []) (s.commands ++ c ∷ []) session machine n.room_then left n.left_then held held_now
-longer-lines session machine turns left held held_now n s r c reads =
+pub longer-lines : (session : Session) (machine : MachineState) (text : Option (List ℕ)) (turns : ℕ) (left held held_now : Option (List ℕ)) (n : LineRead)
+    → (s : Serving session machine text turns n.room left n.left held held_now) → (r : WholeLine n)
+    → Longer (s.lines ++ r.line ∷ []) n.room_then left n.left_then
+longer-lines session machine text turns left held held_now n s r =
     let longer : joined (s.lines ++ r.line ∷ []) ≡ joined s.lines ++ (r.line ++ 10 ∷ []) = joined-push s.lines r.line in
     record {
       plain = NoFeeds-push s.lines r.line s.plain r.plain;
       space = omega (arith, ap length longer, length-append (joined s.lines) (r.line ++ 10 ∷ []), length-append r.line (10 ∷ []), s.space, r.space);
       took = subst (Consumes left n.left_then) (sym longer) (Consumes-trans left n.left n.left_then _ _ s.took r.took);
-      read = subst (λ ls. ReadsAll empty_world ls (s.commands ++ c ∷ [])) (sym (map-append strip s.lines (r.line ∷ []))) (reads-push empty_world (map strip s.lines) (strip r.line) s.commands c s.read reads);
     }
 
+-- the lines as they are acted on, with one more
+pub lines-push : (lines : List (List ℕ)) (line : List ℕ) → map strip (lines ++ line ∷ []) ≡ map strip lines ++ strip line ∷ []
+lines-push lines line = map-append strip lines (line ∷ [])
+
+pub whole-push : (lines : List (List ℕ)) (line : List ℕ) → whole_entries (map strip (lines ++ line ∷ [])) ≡ whole_entries (map strip lines) ++ line_entries (position_of (map strip lines)) (strip line)
+whole-push lines line = ap whole_entries (lines-push lines line) ∙ entries-push (map strip lines) (strip line)
+
+pub at-push : (lines : List (List ℕ)) (line : List ℕ) → position_of (map strip (lines ++ line ∷ [])) ≡ line_position (position_of (map strip lines)) (strip line)
+at-push lines line = ap position_of (lines-push lines line) ∙ position-push (map strip lines) (strip line)
+
 -- one line more
-pub serving-turn : (session session_now : Session) (machine machine_now : MachineState) (turns : ℕ) (left held held_mid held_now : Option (List ℕ)) (n : LineRead)
-    → (s : Serving session machine turns n.room left n.left held held_mid) → (r : WholeLine n)
-    → (t : Answered (world_after empty_world s.commands) (strip r.line) session_now machine_now held_mid held_now)
-    → ((reply_of (world_after empty_world s.commands) t.command).world.mode ≡ Over → ⊥)
-    → Serving session_now machine_now (turns + 1) n.room_then left n.left_then held held_now
-serving-turn session session_now machine machine_now turns left held held_mid held_now n s r t going =
-    let c = t.command in
-    let longer = longer-lines session machine turns left held held_mid n s r c t.reads in
+pub serving-turn : (session session_now : Session) (machine machine_now : MachineState) (text text_now : Option (List ℕ)) (turns : ℕ) (left held held_mid held_now : Option (List ℕ)) (n : LineRead)
+    → (s : Serving session machine text turns n.room left n.left held held_mid) → (r : WholeLine n)
+    → (t : AnsweredAll (world_after empty_world s.commands) (line_entries (position_of (map strip s.lines)) (strip r.line)) session_now machine_now held_mid held_now)
+    → HasText (line_position (position_of (map strip s.lines)) (strip r.line)) text_now
+    → (line_position (position_of (map strip s.lines)) (strip r.line) ≡ Behind → ⊥)
+    → Serving session_now machine_now text_now (turns + 1) n.room_then left n.left_then held held_now
+serving-turn session session_now machine machine_now text text_now turns left held held_mid held_now n s r t kept going =
+    let longer = longer-lines session machine text turns left held held_mid n s r in
+    let cs = s.commands ++ t.commands in
     record {
       lines = s.lines ++ r.line ∷ [];
-      commands = s.commands ++ c ∷ [];
+      commands = cs;
       plain = longer.plain;
       count = omega (arith, length-append s.lines (r.line ∷ []), s.count);
       space = longer.space;
       took = longer.took;
-      read = longer.read;
-      wrote = subst (Appends held held_now) (sym (replies-push empty_world s.commands c)) (Appends-trans held held_mid held_now _ _ s.wrote t.wrote);
-      lives = subst (λ w. IsSessionOf w session_now machine_now) (sym (after-push empty_world s.commands c)) t.lives;
-      going = λ over. going (ap (λ w. w.mode) (sym (after-push empty_world s.commands c)) ∙ over);
+      read = subst (λ es. AreCommandsOf es cs) (sym (whole-push s.lines r.line)) (commands-append _ _ s.commands t.commands s.read t.reads);
+      wrote = subst (Appends held held_now) (sym (replies-append empty_world s.commands t.commands)) (Appends-trans held held_mid held_now _ _ s.wrote t.wrote);
+      lives = subst (λ w. IsSessionOf w session_now machine_now) (sym (after-append empty_world s.commands t.commands)) t.lives;
+      open_text = subst (λ p. HasText p text_now) (sym (at-push s.lines r.line)) kept;
+      going = λ over. going (sym (at-push s.lines r.line) ∙ over);
     }
 
 -- what is acted on of a script whose lines were read so far
@@ -126,8 +142,8 @@ part_of left left_now taken took = record {
 }
 
 -- whole lines were taken, and no more
-pub takes-lines : (lines : List (List ℕ)) (commands : List Command) → NoFeeds lines → ReadsAll empty_world (map strip lines) commands → TakesOnly (joined lines) commands
+pub takes-lines : (lines : List (List ℕ)) (commands : List Command) → NoFeeds lines → AreCommandsOf (whole_entries (map strip lines)) commands → TakesOnly (joined lines) commands
 takes-lines lines commands plain read = record {
-  read = subst (λ ls. ReadsAll empty_world ls commands) (sym (ended-all lines plain)) read;
+  read = subst (λ ls. AreCommandsOf (whole_entries ls) commands) (sym (ended-all lines plain)) read;
   exact = last-all lines plain;
 }

@@ -1,4 +1,6 @@
 pub mod Ends
+pub mod Entries
+pub mod Kept
 pub mod Script
 pub mod Status
 pub mod Taking

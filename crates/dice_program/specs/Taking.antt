@@ -3,7 +3,8 @@
 use Rattle.std.specs.Prelude.{◌≡◌, ◌⊎◌, ℕ, List, [], ◌∷◌, ◌++◌, IfSome}
 use Rattle.std.specs.declared.option.Option.{Option}
 use Rattle.std.specs.Io.KnownBytes.{Consumes, IsAtEnd}
-use Rattle.dice_session.specs.World.{Over, Command, empty_world, ReadsAll, AreCommands, last_world}
+use Rattle.dice_command.specs.declared.command.Command.{Command}
+use Rattle.dice_program.specs.Entries.{whole_entries, script_entries, HasQuit, AreCommandsOf}
 use Rattle.dice_program.specs.Script.{ended_lines, last_piece, acted, IsTooLong}
 
 -- the script: the bytes of the source, where it tells them
@@ -21,7 +22,7 @@ pub record ScriptPart (left left_then : Option (List ℕ)) : Type 0 where
 
 -- these commands are those of the lines that were taken, and no byte behind the last line feed was taken
 pub record TakesOnly (taken : List ℕ) (commands : List Command) : Type 0 where
-  pub read : ReadsAll empty_world (ended_lines taken) commands
+  pub read : AreCommandsOf (whole_entries (ended_lines taken)) commands
   pub exact : last_piece taken ≡ []
 
 -- the whole script was taken, and it is not too long
@@ -31,24 +32,21 @@ pub record TakesAll
   pub ended : IsAtEnd left_then
   pub fits : ¬ (IsTooLong part.script)
 
--- `quit` was read
-abbrev pub IsQuit : List Command → Type 0
-IsQuit commands = (last_world commands).mode ≡ Over
-
 -- `quit` was the last line that was taken
 pub record TakesToQuit (taken : List ℕ) : Type 0 where
-  pub before : List Command
-  pub quit : Command
-  pub only : TakesOnly taken (before ++ quit ∷ [])
-  pub going : ¬ (IsQuit before)
-  pub over : IsQuit (before ++ quit ∷ [])
+  pub before : List (List ℕ)
+  pub quit : List ℕ
+  pub lines : ended_lines taken ≡ before ++ quit ∷ []
+  pub exact : last_piece taken ≡ []
+  pub going : ¬ (HasQuit before)
+  pub over : HasQuit (before ++ quit ∷ [])
 
--- These are the commands of lines and, behind all lines of a script that is not too long, that of the `.` that is
+-- These are the commands of lines and, behind all lines of a script that is not too long, that of a text whose `.` is
 -- missing. A text that is open where a script is too long is not ended.
 abbrev pub AreBegun : List ℕ → List (List ℕ) → List (List ℕ) → List Command → Type 0
 AreBegun script lines rest commands =
-    ReadsAll empty_world lines commands
-    ⊎ ((rest ≡ []) × (¬ (IsTooLong script)) × AreCommands lines commands)
+    AreCommandsOf (whole_entries lines) commands
+    ⊎ ((rest ≡ []) × (¬ (IsTooLong script)) × AreCommandsOf (script_entries lines) commands)
 
 -- the lines that are acted on begin with these commands
 pub record Begins (script : List ℕ) (commands : List Command) : Type 0 where

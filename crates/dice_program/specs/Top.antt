@@ -5,13 +5,15 @@ use Rattle.std.specs.Io.KnownBytes.{Appends, Consumes}
 use Rattle.dice_base.specs.Causes.{Rose}
 use Rattle.dice_base.specs.Part.{WritesPart}
 use Rattle.pdp11_machine.specs.State.{MachineState}
-use Rattle.dice_session.specs.World.{reply_line, Command, empty_world, reply_of, ReadsAll, AreCommands, transcript_of, last_world}
+use Rattle.dice_command.specs.declared.command.Command.{Command}
+use Rattle.dice_session.specs.World.{reply_line, reply_of, transcript_of, last_world}
 use Rattle.dice_session.specs.Simulates.{Simulates}
 use Rattle.dice_program.specs.Ends.{Input, Output}
+use Rattle.dice_program.specs.Entries.{whole_entries, script_entries, HasQuit, AreCommandsOf}
 use Rattle.dice_program.specs.Script.{ended_lines, lines_in, acted, IsTooLong}
 use Rattle.dice_program.specs.declared.limits.TheConstants.{MAX_BYTES, MAX_LINES}
 use Rattle.dice_program.specs.Status.{number_of, message_of}
-use Rattle.dice_program.specs.Taking.{ScriptPart, TakesOnly, TakesAll, TakesToQuit, IsQuit, Begins}
+use Rattle.dice_program.specs.Taking.{ScriptPart, TakesOnly, TakesAll, TakesToQuit, Begins}
 use Rattle.dice_program.specs.declared.serve.Ending.{Ending}
 use Rattle.dice_program.specs.declared.serve.Ending.TheVariants as ending
 use Rattle.dice_program.specs.declared.serve.Fault.{Fault}
@@ -23,7 +25,7 @@ use Rattle.dice_program.specs.declared.status.Status.TheVariants.{Done, Usage, R
 pub record IsDone (input : Input) (output : Output) (machine : MachineState) : Type 0 where
   pub part : ScriptPart input.left input.left_then
   pub commands : List Command
-  pub read : AreCommands (acted part.script) commands
+  pub read : AreCommandsOf (script_entries (acted part.script)) commands
   pub wrote : Appends output.held output.held_then (transcript_of commands)
   pub stands : Simulates (last_world commands) machine
   pub ended : TakesToQuit part.taken ⊎ TakesAll part
@@ -38,18 +40,18 @@ pub record IsJustTooLong (taken : List ℕ) : Type 0 where
 pub record IsTooMany (input : Input) (output : Output) (machine : MachineState) : Type 0 where
   pub part : ScriptPart input.left input.left_then
   pub commands : List Command
-  pub read : ReadsAll empty_world (acted part.script) commands
+  pub read : AreCommandsOf (whole_entries (acted part.script)) commands
   pub wrote : Appends output.held output.held_then (transcript_of commands)
   pub stands : Simulates (last_world commands) machine
   pub long : IsJustTooLong part.taken
-  pub going : ¬ (IsQuit commands)
+  pub going : ¬ (HasQuit (acted part.script))
 
 -- the source failed: each whole line that was taken is answered
 pub record IsBroken (input : Input) (output : Output) (machine : MachineState) : Type 0 where
   pub taken : List ℕ
   pub took : Consumes input.left input.left_then taken
   pub commands : List Command
-  pub read : ReadsAll empty_world (ended_lines taken) commands
+  pub read : AreCommandsOf (whole_entries (ended_lines taken)) commands
   pub wrote : Appends output.held output.held_then (transcript_of commands)
   pub stands : Simulates (last_world commands) machine
 
@@ -76,7 +78,7 @@ pub record IsShort (input : Input) (output : Output) : Type 0 where
   pub lines : List (List ℕ)
   pub rest : List (List ℕ)
   pub parts : acted part.script ≡ lines ++ rest
-  pub read : ReadsAll empty_world lines commands
+  pub read : AreCommandsOf (whole_entries lines) commands
   pub wrote : Appends output.held output.held_then (transcript_of commands)
   pub more : List (List ℕ)
   pub taken : lines_in part.taken ≡ lines ++ more

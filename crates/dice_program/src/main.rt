@@ -6,6 +6,7 @@ mod serve;
 mod status;
 #[cfg(test)]
 mod tests;
+mod text;
 mod top;
 
 use dice_base::{NoMemory, Sink, StdSink, StdSource};

@@ -14,9 +14,9 @@ use Rattle.pascal_print.specs.Listing.{listing}
 use Rattle.simple_form.specs.Simple.{resolution_of}
 use Rattle.tree_edit.specs.declared.fault.EditFault.{EditFault}
 use Rattle.tree_edit.specs.Edited.{replaced_program}
-use Rattle.dice_session.specs.World.{World, Mode, Commands, Loading, Over, reply_line, load_reply, program_reply, loaded_line, statements_of, or_none, refusal, machine_reply, if_program, with_program, begun_reply, full_words, unless_halted, apply_fitting, apply_reply, if_built, edit_reply, replace_reply, edit_fault_text, list_reply}
+use Rattle.dice_session.specs.World.{World, reply_line, load_reply, program_reply, loaded_line, statements_of, or_none, refusal, machine_reply, if_program, with_program, begun_reply, full_words, unless_halted, apply_fitting, apply_reply, if_built, edit_reply, replace_reply, edit_fault_text, list_reply}
 use Rattle.dice_session.specs.Simulates.{SimulatesRun}
-use Rattle.dice_session.specs.SessionOf.{HasMode, HasStatements, HasProgram, IsSessionOf, Became}
+use Rattle.dice_session.specs.SessionOf.{HasStatements, HasProgram, IsSessionOf, Became}
 use Rattle.dice_session.specs.Progress.{progress_of, is_halted}
 use Rattle.dice_session.specs.declared.progress.Progress.TheVariants as progress
 use Rattle.dice_session.specs.declared.session.Session.{Session}
@@ -45,10 +45,9 @@ apply-unbuilt w p before after s machine h none told = subst (λ r. Became (if_b
 -- ---- edits
 
 -- another draft
-pub with-draft : (w : World) (p : Tree) (s t : Session) (machine : MachineState) → IsSessionOf w s machine → t.over ≡ s.over → t.text ≡ s.text → t.program ≡ s.program → t.progress ≡ s.progress → t.console ≡ s.console → t.draft ≡ Some p
+pub with-draft : (w : World) (p : Tree) (s t : Session) (machine : MachineState) → IsSessionOf w s machine → t.program ≡ s.program → t.progress ≡ s.progress → t.console ≡ s.console → t.draft ≡ Some p
     → IsSessionOf (record w { draft = Some p }) t machine
-with-draft w p s t machine h over text program progress console draft = record {
-  mode = mode w.mode h.mode;
+with-draft w p s t machine h program progress console draft = record {
   program = kept w.present h.program;
   progress = progress ∙ h.progress;
   draft = draft;
@@ -56,21 +55,16 @@ with-draft w p s t machine h over text program progress console draft = record {
   simulates = h.simulates;
 }
   where
-    mode : (m : Mode) → HasMode m s → HasMode m t
-    mode Commands m = (over ∙ m.0, text ∙ m.1)
-    mode (Loading x) m = (over ∙ m.0, ap (option_map (λ t. t.items)) text ∙ m.1)
-    mode Over m = (over ∙ m.0, text ∙ m.1)
-
     kept : (p : Option Tree) → HasProgram p w.state s → HasProgram p w.state t
     kept None h = program ∙ h
     kept (Some p) h = record { statements = ap (option_map (λ v. v.items)) program ∙ h.statements; program = h.program; formed = h.formed }
 
 pub edit-done : (w : World) (name : ℕ) (x : Stmt) (p q : Tree) (before after : List ℕ) (s t : Session) (machine : MachineState) → IsSessionOf w s machine → s.draft ≡ Some p → replaced_program name x p ≡ Ok q
-    → t.over ≡ s.over → t.text ≡ s.text → t.program ≡ s.program → t.progress ≡ s.progress → t.console ≡ s.console → t.draft ≡ Some q
+    → t.program ≡ s.program → t.progress ≡ s.progress → t.console ≡ s.console → t.draft ≡ Some q
     → after ≡ before ++ reply_line (codes "edited " ++ decimal name) → Became (if_program w.draft w (replace_reply w name x)) before after machine t machine
-edit-done w name x p q before after s t machine h some is over text program progress console draft told =
+edit-done w name x p q before after s t machine h some is program progress console draft told =
     subst (λ d. Became (if_program d w (replace_reply w name x)) before after machine t machine) (sym some ∙ h.draft)
-    (subst (λ r. Became (edit_reply w name r) before after machine t machine) (sym is) (record { told = told; kept = λ e. refl; of_world = with-draft w q s t machine h over text program progress console draft }))
+    (subst (λ r. Became (edit_reply w name r) before after machine t machine) (sym is) (record { told = told; kept = λ e. refl; of_world = with-draft w q s t machine h program progress console draft }))
 
 pub edit-refused : (w : World) (name : ℕ) (x : Stmt) (p : Tree) (fault : EditFault) (before after : List ℕ) (s : Session) (machine : MachineState) → IsSessionOf w s machine → s.draft ≡ Some p → replaced_program name x p ≡ Err fault
     → after ≡ before ++ reply_line (edit_fault_text fault) → Became (if_program w.draft w (replace_reply w name x)) before after machine s machine
@@ -81,14 +75,13 @@ edit-refused w name x p fault before after s machine h some is told =
 -- ---- a program is loaded
 
 -- the machine was made ready, and the statements are those of the present program
-pub begun-became : (w : World) (p : Tree) (ss : List Statement) (before after : List ℕ) (s t : Session) (machine now : MachineState) → IsSessionOf w s machine → w.mode ≡ Commands → resolution_of p ≡ Some ss → IsProgram ss
-    → t.over ≡ s.over → t.text ≡ s.text → t.draft ≡ s.draft → t.progress ≡ progress.NotStarted → option_map (λ v. v.items) t.program ≡ Some ss → t.console.output ≡ []
+pub begun-became : (w : World) (p : Tree) (ss : List Statement) (before after : List ℕ) (s t : Session) (machine now : MachineState) → IsSessionOf w s machine → resolution_of p ≡ Some ss → IsProgram ss
+    → t.draft ≡ s.draft → t.progress ≡ progress.NotStarted → option_map (λ v. v.items) t.program ≡ Some ss → t.console.output ≡ []
     → SimulatesRun ss loaded_state now → after ≡ before ++ loaded_line ss → Became (begun_reply w p ss) before after machine t now
-begun-became w p ss before after s t machine now h commands is program over text draft progress statements drained stands told = record {
+begun-became w p ss before after s t machine now h is program draft progress statements drained stands told = record {
   told = told;
   kept = λ e. absurd (cc e);
   of_world = record {
-    mode = let m = subst (λ m. HasMode m s) commands h.mode in subst (λ m. HasMode m t) (sym commands) (over ∙ m.0, text ∙ m.1);
     program = subst (λ xs. HasProgramOf xs) (sym same) (record { statements = statements; program = program; formed = record { before = λ e. refl; halted = λ e. absurd (cc e) } });
     progress = progress;
     draft = draft ∙ h.draft;
@@ -115,12 +108,12 @@ load-built w p ss before after t machine now is became = subst (λ r. Became (if
 -- the draft is that program as well
 pub loaded-became : (w : World) (p : Tree) (ss : List Statement) (before after : List ℕ) (machine : MachineState) (s t : Session) (now : MachineState) → program_charge + charges_of ss ≤ code_room
     → Became (begun_reply w p ss) before after machine s now
-    → t.over ≡ s.over → t.text ≡ s.text → t.program ≡ s.program → t.progress ≡ s.progress → t.console ≡ s.console → t.draft ≡ Some p → Became (load_reply w p ss) before after machine t now
-loaded-became w p ss before after machine s t now fits became over text program progress console draft =
+    → t.program ≡ s.program → t.progress ≡ s.progress → t.console ≡ s.console → t.draft ≡ Some p → Became (load_reply w p ss) before after machine t now
+loaded-became w p ss before after machine s t now fits became program progress console draft =
     subst (λ next. Became next before after machine t now) (sym (fitting ss w (machine_reply (record (with_program w p) { draft = Some p }) (loaded_line ss)) fits)) (record {
       told = became.told;
       kept = λ e. absurd (cc e);
-      of_world = with-draft (with_program w p) p s t now became.of_world over text program progress console draft;
+      of_world = with-draft (with_program w p) p s t now became.of_world program progress console draft;
     })
 
 -- what the session keeps tells whether the program is stopped

@@ -1,5 +1,5 @@
 -- Runs of worked programs, and transcripts.
-use Rattle.std.proofs.Common.{◌≡◌, ℕ, List, [], ◌∷◌, ◌++◌, Some, None, Err, refl}
+use Rattle.std.proofs.Common.{◌≡◌, ℕ, List, [], ◌∷◌, ◌++◌, Some, None, refl}
 use Rattle.std.specs.Prelude.{codes}
 use Rattle.std.specs.Fmt.{digits}
 use Rattle.pascal_semantics.specs.declared.form.Operand.TheVariants.{Global, Number}
@@ -8,11 +8,11 @@ use Rattle.pascal_semantics.specs.declared.form.Statement.{Statement}
 use Rattle.pascal_semantics.specs.Program.{program_of}
 use Rattle.pascal_semantics.specs.State.{loaded_state}
 use Rattle.pascal_semantics.specs.Run.{settled, driven, run_of}
-use Rattle.dice_command.specs.Command.{Listing, Apply, Run, Quit, Unbuilt}
+use Rattle.dice_command.specs.declared.command.Command.TheVariants.{List as Listing, Apply, Run, Quit, Unbuilt, Bad}
 use Rattle.pascal_scanner.specs.declared.fault.ScanFault.TheVariants.{TextTooLong, NumberTooLarge}
 use Rattle.token_reader.specs.declared.fault.ParseFault.TheVariants.{Unexpected, EndsEarly, TooDeep}
-use Rattle.dice_session.specs.declared.reading.TextFault.TheVariants.{Scan, Parse}
-use Rattle.dice_session.specs.World.{Line, Puts, TextEnd, Nothing, reply_line, loaded_line, run_lines, reply_of, transcript_of}
+use Rattle.dice_command.specs.declared.command.CommandFault.TheVariants.{Scan, Parse}
+use Rattle.dice_session.specs.World.{reply_line, loaded_line, run_lines, reply_of, transcript_of}
 
 -- the reply to a run of so many gates from the start
 abbrev told_of : List Statement → ℕ → List ℕ
@@ -67,8 +67,8 @@ too_large_told : told_of too_large 9 ≡ reply_line (codes "error 3 at 5")
 unfolding settled driven digits
 too_large_told = refl
 
--- no program, texts that are not read, and what stands behind `quit`
-none_told : transcript_of (Line (Run 1) ∷ Line Listing ∷ Line Apply ∷ Puts 4 (Err (Parse (Unexpected 2))) ∷ Puts 4 (Err (Parse EndsEarly)) ∷ Puts 4 (Err (Parse TooDeep)) ∷ TextEnd (Err (Scan (NumberTooLarge 25))) ∷ TextEnd (Err (Scan TextTooLong)) ∷ Line Unbuilt ∷ Line Quit ∷ Nothing ∷ [])
+-- no program, and texts that are not read
+none_told : transcript_of (Run 1 ∷ Listing ∷ Apply ∷ Bad (Parse (Unexpected 2)) ∷ Bad (Parse EndsEarly) ∷ Bad (Parse TooDeep) ∷ Bad (Scan (NumberTooLarge 25)) ∷ Bad (Scan TextTooLong) ∷ Unbuilt ∷ Quit ∷ [])
     ≡ reply_line (codes "no program") ++ reply_line (codes "no program") ++ reply_line (codes "no program") ++ reply_line (codes "parse fault at token 2") ++ reply_line (codes "parse fault end") ++ reply_line (codes "too deep")
     ++ reply_line (codes "scan fault number at 25") ++ reply_line (codes "text too long") ++ reply_line (codes "not built")
 unfolding reply_of digits

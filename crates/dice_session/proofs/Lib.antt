@@ -3,8 +3,6 @@ pub mod Good
 pub mod Go
 pub mod After
 pub mod Loaded
-pub mod Texts
-pub mod Readings
 pub mod Sessions
 pub mod Drafts
 mod Examples

@@ -1,9 +1,7 @@
-pub mod Reading
 pub mod Readings
 pub mod World
 pub mod Represents
 pub mod Simulates
 pub mod Places
 pub mod SessionOf
-pub mod Texts
 pub mod Progress

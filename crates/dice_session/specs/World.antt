@@ -1,6 +1,6 @@
 -- The world of a session, and what a command does to it: the world after it, what is written, and whether the machine
 -- is touched. The commands and their replies are the debugger's own; docs/COMMANDS.md has them for its user.
-use Rattle.std.specs.Prelude.{◌≡◌, ℕ, ◌+◌, ◌-◌, ◌==◌, nat_lt, Bool, true, false, if◌then◌else◌, List, [], ◌∷◌, ◌++◌, length, codes, bytes_eq, slice_index, Option, Some, None, Result, Ok, Err}
+use Rattle.std.specs.Prelude.{◌≡◌, ℕ, ◌+◌, ◌-◌, ◌==◌, nat_lt, Bool, true, false, if◌then◌else◌, List, [], ◌∷◌, ◌++◌, length, codes, slice_index, Option, Some, None, Result, Ok, Err}
 use Rattle.std.specs.Fmt.{decimal}
 use Rattle.pascal_tree.specs.declared.program.Tree.{Tree}
 use Rattle.pascal_tree.specs.declared.stmt.Stmt.{Stmt}
@@ -20,64 +20,20 @@ use Rattle.tree_edit.specs.declared.fault.EditFault.TheVariants as edit
 use Rattle.tree_edit.specs.Edited.{replaced_program}
 use Rattle.pascal_print.specs.Listing.{listing}
 use Rattle.dice_command.specs.declared.command.CommandFault.{CommandFault}
-use Rattle.dice_command.specs.declared.command.CommandFault.TheVariants.{LineTooLong, NotACommand, BadNumber}
-use Rattle.dice_command.specs.Command.{Asked, Blank, Load, Listing, Replace, Apply, Run, Quit, Unbuilt, Bad, command_of}
+use Rattle.dice_command.specs.declared.command.CommandFault.TheVariants.{LineTooLong, NotACommand, BadNumber, Scan, Parse}
+use Rattle.dice_command.specs.declared.command.Command.{Command}
+use Rattle.dice_command.specs.declared.command.Command.TheVariants as command
 use Rattle.dice_session.specs.Progress.{progress_of, is_over, is_halted}
-use Rattle.dice_session.specs.Reading.{IsProgramText, IsStmtText}
-use Rattle.dice_session.specs.declared.reading.TextFault.{TextFault}
-use Rattle.dice_session.specs.declared.reading.TextFault.TheVariants.{Scan, Parse}
-
--- what the next line of the script is: a command; a line of a text that is to be loaded, behind these; or nothing,
--- behind `quit`
-pub data Mode : Type 0 where
-  Commands : Mode
-  Loading : (text : List ℕ) → Mode
-  Over : Mode
 
 -- the present program and its state, and the draft, which edits change: trees whose items have names
 pub record World : Type 0 where
   pub present : Option Tree
   pub draft : Option Tree
   pub state : State
-  pub mode : Mode
 
--- before the first line of the script
+-- before the first command
 abbrev pub empty_world : World
-empty_world = record { present = None; draft = None; state = loaded_state; mode = Commands }
-
--- what a line is: a command line; one that puts what its text turns out to be in the place of a statement; a line of a
--- text; the end of a text, which turns out to be this; or nothing
-pub data Command : Type 0 where
-  Line : Asked → Command
-  Puts : (name : ℕ) → Result Stmt TextFault → Command
-  TextLine : (line : List ℕ) → Command
-  TextEnd : Result Tree TextFault → Command
-  Nothing : Command
-
--- the end of a text that is to be loaded
-abbrev pub end_line : List ℕ
-end_line = codes "."
-
--- the command ends a text, which turns out to be this
-abbrev pub EndsText : List ℕ → Command → Type 0
-EndsText text c = (read : Result Tree TextFault) × IsProgramText text read × (c ≡ TextEnd read)
-
--- the end line, or one more line of the text
-abbrev pub IsTextCommand : Bool → List ℕ → List ℕ → Command → Type 0
-IsTextCommand true text line c = EndsText text c
-IsTextCommand false text line c = c ≡ TextLine line
-
--- the text of a `replace` is read as a statement
-abbrev pub IsCommand : Asked → Command → Type 0
-IsCommand (Replace name text) c =
-    (read : Result Stmt TextFault) × IsStmtText text read × (c ≡ Puts name read)
-IsCommand asked c = c ≡ Line asked
-
--- in this mode, the line is this command
-unfoldable pub Reads : Mode → List ℕ → Command → Type 0
-Reads Commands line c = IsCommand (command_of line) c
-Reads (Loading text) line c = IsTextCommand (bytes_eq line end_line) text line c
-Reads Over line c = c ≡ Nothing
+empty_world = record { present = None; draft = None; state = loaded_state }
 
 -- what comes of a command: the world after it, the bytes that are written, and whether it touches the machine. One that
 -- does not touch it leaves all registers and all memory as they were.
@@ -107,7 +63,7 @@ abbrev pub if_program : Option Tree → World → (Tree → Reply) → Reply
 if_program None w reply = refusal w (codes "no program")
 if_program (Some p) w reply = reply p
 
--- ---- texts that are not read
+-- ---- lines that are no commands, and texts that are not read
 
 -- why a text is not cut into tokens, with the place, a byte of the text that is counted from 0
 abbrev pub scan_fault_text : ScanFault → List ℕ
@@ -125,15 +81,13 @@ parse_fault_text parse.EndsEarly = codes "parse fault end"
 parse_fault_text parse.TooDeep = codes "too deep"
 parse_fault_text parse.NoMemory = []
 
--- why a text is not read; none is for want of memory, where there is no reply at all
-abbrev pub text_fault_text : TextFault → List ℕ
-text_fault_text (Scan fault) = scan_fault_text fault
-text_fault_text (Parse fault) = parse_fault_text fault
-
--- what comes of a text, where it is read
-abbrev pub if_read : {A : Type 0} → Result A TextFault → World → (A → Reply) → Reply
-if_read (Err fault) w reply = refusal w (text_fault_text fault)
-if_read (Ok tree) w reply = reply tree
+-- why a line, or its text, is no command; none is for want of memory, where there is no reply at all
+abbrev pub fault_text : CommandFault → List ℕ
+fault_text LineTooLong = codes "line too long"
+fault_text NotACommand = codes "not a command"
+fault_text BadNumber = codes "bad number"
+fault_text (Scan fault) = scan_fault_text fault
+fault_text (Parse fault) = parse_fault_text fault
 
 -- ---- runs
 
@@ -230,10 +184,6 @@ if_built (Some ss) w reply = reply ss
 abbrev pub program_reply : World → Tree → Reply
 program_reply w p = if_built (resolution_of p) w (load_reply w p)
 
--- what comes of the end of a text, by what it turns out to be
-abbrev pub text_reply : World → Result Tree TextFault → Reply
-text_reply w read = if_read read w (program_reply w)
-
 -- not yet where the present program is stopped at a statement
 abbrev pub unless_halted : World → Reply → Reply
 unless_halted w reply =
@@ -271,48 +221,19 @@ edit_reply w name (Err fault) = refusal w (edit_fault_text fault)
 abbrev pub replace_reply : World → ℕ → Stmt → Tree → Reply
 replace_reply w name s p = edit_reply w name (replaced_program name s p)
 
--- any statement is put in the place of another, where there is a draft
-abbrev pub into_draft : World → ℕ → Stmt → Reply
-into_draft w name s = if_program w.draft w (replace_reply w name s)
-
--- what comes of a text that is to stand in the place of a statement, by what it turns out to be
-abbrev pub put_reply : World → ℕ → Result Stmt TextFault → Reply
-put_reply w name read = if_read read w (into_draft w name)
-
 -- ---- all commands
-
--- why a line is no command
-abbrev pub fault_text : CommandFault → List ℕ
-fault_text LineTooLong = codes "line too long"
-fault_text NotACommand = codes "not a command"
-fault_text BadNumber = codes "bad number"
-
--- what comes of a command line; of a `replace` nothing here, since it is read with its statement (`Puts`)
-abbrev pub asked_reply : World → Asked → Reply
-asked_reply w Blank = host_reply w []
-asked_reply w Load = host_reply (record w { mode = Loading [] }) []
-asked_reply w Listing = if_program w.draft w (list_reply w)
-asked_reply w (Replace name text) = host_reply w []
-asked_reply w Apply = if_program w.draft w (apply_reply w)
-asked_reply w (Run k) = if_program w.present w (run_reply w k)
-asked_reply w Quit = host_reply (record w { mode = Over }) []
-asked_reply w Unbuilt = refusal w (codes "not built")
-asked_reply w (Bad fault) = refusal w (fault_text fault)
-
--- a text has one line more
-abbrev pub with_line : Mode → List ℕ → Mode
-with_line (Loading text) line = Loading (text ++ (line ++ 10 ∷ []))
-with_line other line = other
 
 -- what comes of a command
 unfoldable pub reply_of : World → Command → Reply
-reply_of w (Line asked) = asked_reply w asked
-reply_of w (Puts name s) = put_reply w name s
-reply_of w (TextLine line) = host_reply (record w { mode = with_line w.mode line }) []
-reply_of w (TextEnd reading) = text_reply (record w { mode = Commands }) reading
-reply_of w Nothing = host_reply w []
-
--- ---- scripts
+reply_of w command.Blank = host_reply w []
+reply_of w (command.Load p) = program_reply w p
+reply_of w command.List = if_program w.draft w (list_reply w)
+reply_of w (command.Replace name s) = if_program w.draft w (replace_reply w name.0 s)
+reply_of w command.Apply = if_program w.draft w (apply_reply w)
+reply_of w (command.Run k) = if_program w.present w (run_reply w k)
+reply_of w command.Quit = host_reply w []
+reply_of w command.Unbuilt = refusal w (codes "not built")
+reply_of w (command.Bad fault) = refusal w (fault_text fault)
 
 -- what is written of these commands, from this world on
 abbrev pub replies_from : World → List Command → List ℕ
@@ -324,32 +245,10 @@ abbrev pub world_after : World → List Command → World
 world_after w [] = w
 world_after w (c ∷ cs) = world_after (reply_of w c).world cs
 
--- from this world on, the lines are these commands
-abbrev pub ReadsAll : World → List (List ℕ) → List Command → Type 0
-ReadsAll w [] [] = Unit {0}
-ReadsAll w [] (c ∷ cs) = ⊥
-ReadsAll w (l ∷ ls) [] = ⊥
-ReadsAll w (l ∷ ls) (c ∷ cs) = Reads w.mode l c × ReadsAll (reply_of w c).world ls cs
-
--- at the end of the script, a text that is still open is ended
-abbrev pub missing_end : Mode → List (List ℕ)
-missing_end Commands = []
-missing_end (Loading text) = end_line ∷ []
-missing_end Over = []
-
--- the commands of a whole script of these lines
-pub record AreCommands (lines : List (List ℕ)) (commands : List Command) : Type 0 where
-  pub front : List Command
-  pub last : List Command
-  pub all : commands ≡ front ++ last
-  pub read : ReadsAll empty_world lines front
-  pub ended :
-      ReadsAll (world_after empty_world front) (missing_end (world_after empty_world front).mode) last
-
--- what is written of a whole script of these commands
+-- what is written of a whole session of these commands
 abbrev pub transcript_of : List Command → List ℕ
 transcript_of commands = replies_from empty_world commands
 
--- the world after a whole script of these commands
+-- the world after a whole session of these commands
 abbrev pub last_world : List Command → World
 last_world commands = world_after empty_world commands

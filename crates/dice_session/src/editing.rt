@@ -3,13 +3,11 @@ ghost use Rattle.std.specs.Prelude.{◌≡◌, ◌++◌, ℕ, List, Some, OnOk};
 ghost use Rattle.pascal_tree.specs.declared.program.Tree.{Tree};
 ghost use Rattle.pdp11_machine.specs.State.{MachineState};
 ghost use Rattle.simple_form.specs.Simple.{resolution_of};
-ghost use Rattle.dice_command.specs.Command.{Replace};
 ghost use Rattle.dice_session.specs.Readings.{AreNamed};
-ghost use Rattle.dice_session.specs.World.{World, Commands, if_program, list_reply, into_draft, apply_reply, edit_fault_text, reply_line};
-ghost use Rattle.dice_session.specs.SessionOf.{IsSessionOf, Obeyed, Became};
+ghost use Rattle.dice_session.specs.World.{World, if_program, list_reply, replace_reply, apply_reply};
+ghost use Rattle.dice_session.specs.SessionOf.{IsSessionOf, Became};
 
-use crate::reading::read_statement;
-use crate::reply::{push_edited, push_full, refuse, refuse_edit, refuse_text};
+use crate::reply::{push_edited, push_full, refuse, refuse_edit};
 use crate::session::Session;
 use dice_base::{Name, NoMemory, Text};
 use pascal_print::print_program;
@@ -33,38 +31,23 @@ impl Session {
         out.append(alloc, text.bytes())
     }
 
-    /// Reads a statement, and puts it in the place of the one of this name in the draft.
+    /// Puts a statement in the place of the one of this name in the draft.
     pub(crate) fn replace(
         &mut self,
         alloc: Global,
-        name: u32,
-        text: &[u8],
-        out: &mut Text,
-    ) -> Result<(), NoMemory>
-        ensures { OnOk result ((w : World) (machine : MachineState) → IsSessionOf w self.old machine
-            → Obeyed w (Replace name text.now) out.old out.new machine self.new machine) }
-    {
-        match read_statement(alloc, text) {
-            Ok(stmt) => self.edit(alloc, name, stmt.get(), out),
-            Err(fault) => refuse_text(alloc, out, fault),
-        }
-    }
-
-    fn edit(
-        &mut self,
-        alloc: Global,
-        name: u32,
+        name: Name,
         stmt: &Stmt,
         out: &mut Text,
     ) -> Result<(), NoMemory>
         ensures { OnOk result ((w : World) (machine : MachineState) → IsSessionOf w self.old machine
-            → Became (into_draft w name stmt.now) out.old out.new machine self.new machine) }
+            → Became (if_program w.draft w (replace_reply w name.0 stmt.now)) out.old out.new
+            machine self.new machine) }
     {
         let Some(draft) = &mut self.draft else {
             return refuse(alloc, out, b"no program");
         };
-        match replace(alloc, draft, Name(name), stmt) {
-            Ok(()) => push_edited(alloc, out, name),
+        match replace(alloc, draft, name, stmt) {
+            Ok(()) => push_edited(alloc, out, name.0),
             Err(fault) => refuse_edit(alloc, out, fault),
         }
     }
@@ -76,7 +59,7 @@ impl Session {
         machine: &mut Machine,
         out: &mut Text,
     ) -> Result<(), NoMemory>
-        ensures { OnOk result ((w : World) → IsSessionOf w self.old machine.old → w.mode ≡ Commands
+        ensures { OnOk result ((w : World) → IsSessionOf w self.old machine.old
             → Became (if_program w.draft w (apply_reply w)) out.old out.new machine.old self.new machine.new) }
     {
         let Some(draft) = &self.draft else {
@@ -97,7 +80,7 @@ impl Session {
     ) -> Result<(), NoMemory>
         requires { AreNamed statements.items }
         ensures { OnOk result ((w : World) (p : Tree) → IsSessionOf w self.old machine.old
-            → w.mode ≡ Commands → resolution_of p ≡ Some statements.items
+            → resolution_of p ≡ Some statements.items
             → Became (apply_reply w p) out.old out.new machine.old self.new machine.new) }
     {
         let words = code_words(&statements);

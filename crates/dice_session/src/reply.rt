@@ -4,13 +4,12 @@ ghost use Rattle.std.specs.Fmt.{decimal};
 ghost use Rattle.tree_edit.specs.declared.fault.EditFault.TheVariants.{NoMemory as WantsMemory};
 ghost use Rattle.pascal_semantics.specs.Charge.{program_charge, charges_of};
 ghost use Rattle.pascal_semantics.specs.Valid.{code_room};
-ghost use Rattle.dice_session.specs.Reading.{IsOfText};
-ghost use Rattle.dice_session.specs.World.{reply_line, loaded_line, written_part, full_words, edit_fault_text, scan_fault_text, parse_fault_text, text_fault_text};
+ghost use Rattle.dice_session.specs.World.{reply_line, loaded_line, written_part, full_words, edit_fault_text, fault_text, scan_fault_text, parse_fault_text};
 ghost use Rattle.dice_session.specs.Places.{ending_text};
 
 use crate::place::name_at;
-use crate::reading::TextFault;
 use dice_base::{NoMemory, Text, push_decimal};
+use dice_command::CommandFault;
 use pascal_parser::ParseFault;
 use pascal_scanner::ScanFault;
 use pascal_semantics::Statement;
@@ -71,8 +70,7 @@ fn refuse_at(alloc: Global, out: &mut Text, text: &[u8], number: u32) -> Result<
 }
 
 fn refuse_scan(alloc: Global, out: &mut Text, fault: ScanFault) -> Result<(), NoMemory>
-    ensures value { OnOk result (out.new ≡ out.old ++ reply_line (scan_fault_text fault)) }
-    ensures told { OnOk result (IsOfText (TextFault.Scan fault)) }
+    ensures { OnOk result (out.new ≡ out.old ++ reply_line (scan_fault_text fault)) }
 {
     match fault {
         ScanFault::BadCharacter(at) => refuse_at(alloc, out, b"scan fault character at ", at),
@@ -85,8 +83,7 @@ fn refuse_scan(alloc: Global, out: &mut Text, fault: ScanFault) -> Result<(), No
 }
 
 fn refuse_parse(alloc: Global, out: &mut Text, fault: ParseFault) -> Result<(), NoMemory>
-    ensures value { OnOk result (out.new ≡ out.old ++ reply_line (parse_fault_text fault)) }
-    ensures told { OnOk result (IsOfText (TextFault.Parse fault)) }
+    ensures { OnOk result (out.new ≡ out.old ++ reply_line (parse_fault_text fault)) }
 {
     match fault {
         ParseFault::Unexpected(token) => { refuse_at(alloc, out, b"parse fault at token ", token) }
@@ -96,14 +93,20 @@ fn refuse_parse(alloc: Global, out: &mut Text, fault: ParseFault) -> Result<(), 
     }
 }
 
-/// Why a text is not read.
-pub(crate) fn refuse_text(alloc: Global, out: &mut Text, fault: TextFault) -> Result<(), NoMemory>
-    ensures value { OnOk result (out.new ≡ out.old ++ reply_line (text_fault_text fault)) }
-    ensures told { OnOk result (IsOfText fault) }
+/// Why a line is no command, or its text not read.
+pub(crate) fn refuse_line(
+    alloc: Global,
+    out: &mut Text,
+    fault: CommandFault,
+) -> Result<(), NoMemory>
+    ensures { OnOk result (out.new ≡ out.old ++ reply_line (fault_text fault)) }
 {
     match fault {
-        TextFault::Scan(fault) => refuse_scan(alloc, out, fault),
-        TextFault::Parse(fault) => refuse_parse(alloc, out, fault),
+        CommandFault::LineTooLong => refuse(alloc, out, b"line too long"),
+        CommandFault::NotACommand => refuse(alloc, out, b"not a command"),
+        CommandFault::BadNumber => refuse(alloc, out, b"bad number"),
+        CommandFault::Scan(fault) => refuse_scan(alloc, out, fault),
+        CommandFault::Parse(fault) => refuse_parse(alloc, out, fault),
     }
 }
 

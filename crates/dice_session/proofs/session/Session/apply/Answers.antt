@@ -4,5 +4,5 @@ use Rattle.dice_session.proofs.Drafts.{apply-some}
 use Rattle.dice_session.proofs.session.Session.apply.Goals as goal
 
 pub returns-in-Some-2 : goal.returns-in-Some-2
-returns-in-Some-2 c = on_ok c.apply_statements.result c.apply_statements.ensures (λ f w lives mode.
-    apply-some w c.in-Some.draft _ _ c.args.self.now _ _ _ lives c.in-Some.is (f w c.in-Some.draft lives mode (sym (rw c.in-Some-2.is at c.in_ok-program.ensures.value))))
+returns-in-Some-2 c = on_ok c.apply_statements.result c.apply_statements.ensures (λ f w lives.
+    apply-some w c.in-Some.draft _ _ c.args.self.now _ _ _ lives c.in-Some.is (f w c.in-Some.draft lives (sym (rw c.in-Some-2.is at c.in_ok-program.ensures.value))))

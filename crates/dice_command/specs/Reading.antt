@@ -1,5 +1,5 @@
 -- What texts turn out to be: one that is to be loaded, and one that is to stand in the place of a statement.
-use Rattle.std.specs.Prelude.{◌≡◌, ℕ, ◌<◌, ◌≤◌, ◌-◌, List, length, Result, Ok, Err, IfErr}
+use Rattle.std.specs.Prelude.{◌≡◌, ℕ, ◌<◌, ◌≤◌, ◌-◌, List, length, Result, Ok, Err}
 use Rattle.dice_base.specs.Tokens.{Toks}
 use Rattle.dice_base.specs.Lexemes.{Lexes}
 use Rattle.dice_base.specs.Forms.{Form}
@@ -7,9 +7,7 @@ use Rattle.pascal_scanner.specs.Unread.{Reports}
 use Rattle.pascal_scanner.specs.declared.limits.TheConstants.{MAX_TEXT_BYTES}
 use Rattle.pascal_scanner.specs.declared.fault.ScanFault.{ScanFault}
 use Rattle.pascal_scanner.specs.declared.fault.ScanFault.TheVariants.{TextTooLong}
-use Rattle.pascal_scanner.specs.declared.fault.ScanFault.TheVariants as scan
 use Rattle.token_reader.specs.Answers.{Says}
-use Rattle.token_reader.specs.declared.fault.ParseFault.TheVariants as parse
 use Rattle.pascal_tree.specs.declared.levels.TheConstants.{LEVELS}
 use Rattle.pascal_tree.specs.declared.program.Tree.{Tree}
 use Rattle.pascal_tree.specs.declared.stmt.Stmt.{Stmt}
@@ -17,8 +15,8 @@ use Rattle.pascal_tree.specs.Naming.{numbered_program}
 use Rattle.pascal_tree.specs.Programs.{program_at}
 use Rattle.pascal_tree.specs.Statements.{stmt_at}
 use Rattle.pascal_parser.specs.Named.{named_stmt}
-use Rattle.dice_session.specs.declared.reading.TextFault.{TextFault}
-use Rattle.dice_session.specs.declared.reading.TextFault.TheVariants.{Scan, Parse}
+use Rattle.dice_command.specs.declared.command.CommandFault.{CommandFault}
+use Rattle.dice_command.specs.declared.command.CommandFault.TheVariants.{Scan, Parse}
 
 -- the text is not cut into tokens, for this reason; that it is too long comes before all others
 pub record IsUnscanned (text : List ℕ) (fault : ScanFault) : Type 0 where
@@ -33,28 +31,16 @@ pub record IsScanned (text : List ℕ) (Said : Toks → Type 0) : Type 0 where
   pub said : Said tokens
 
 -- what a result says of the text: what is made of the tree that its tokens spell within n levels, or why it is not read
-abbrev pub TextSays : {A B : Type 0} → (ℕ → Form A) → ℕ → (A → B) → List ℕ → Result B TextFault → Type 0
+abbrev pub TextSays : {A B : Type 0} → (ℕ → Form A) → ℕ → (A → B) → List ℕ → Result B CommandFault → Type 0
 TextSays g n make text (Err (Scan fault)) = IsUnscanned text fault
 TextSays g n make text (Err (Parse fault)) = IsScanned text (λ tokens. Says g n make tokens (Err fault))
+TextSays g n make text (Err of_line) = ⊥
 TextSays g n make text (Ok b) = IsScanned text (λ tokens. Says g n make tokens (Ok b))
 
--- want of memory is no fault of a text
-abbrev pub IsOfText : TextFault → Type 0
-IsOfText (Scan scan.NoMemory) = ⊥
-IsOfText (Parse parse.NoMemory) = ⊥
-IsOfText fault = Unit {0}
-
--- the text turns out to be this
-pub record IsTextOf
-    {A B : Type 0} (g : ℕ → Form A) (n : ℕ) (make : A → B) (text : List ℕ) (result : Result B TextFault)
-    : Type 0 where
-  pub of_text : IfErr result IsOfText
-  pub says : TextSays g n make text result
-
 -- a program, whose items have names, or why the text is none
-abbrev pub IsProgramText : List ℕ → Result Tree TextFault → Type 0
-IsProgramText text result = IsTextOf program_at (LEVELS - 1) numbered_program text result
+abbrev pub IsProgramText : List ℕ → Result Tree CommandFault → Type 0
+IsProgramText text result = TextSays program_at (LEVELS - 1) numbered_program text result
 
 -- a statement, or why the text is none
-abbrev pub IsStmtText : List ℕ → Result Stmt TextFault → Type 0
-IsStmtText text result = IsTextOf stmt_at LEVELS named_stmt text result
+abbrev pub IsStmtText : List ℕ → Result Stmt CommandFault → Type 0
+IsStmtText text result = TextSays stmt_at LEVELS named_stmt text result

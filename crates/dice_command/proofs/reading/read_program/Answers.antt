@@ -1,8 +1,8 @@
 use Rattle.std.proofs.Common.{ap, subst, sym}
 use Rattle.dice_base.specs.Lexemes.{Lexes}
 use Rattle.token_reader.specs.Answers.{kinds}
-use Rattle.dice_session.proofs.Readings.{not-long, ok-err}
-use Rattle.dice_session.proofs.reading.read_program.Goals as goal
+use Rattle.dice_command.proofs.Readings.{not-long, ok-err}
+use Rattle.dice_command.proofs.reading.read_program.Goals as goal
 
 pub returns : goal.returns
 returns c = record {

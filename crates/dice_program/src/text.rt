@@ -1,6 +1,6 @@
 //! The text that is to be loaded, line by line.
 ghost use Rattle.std.specs.Prelude.{◌≡◌, ◌≤◌, ◌++◌, [], ◌∷◌, length, take, IfOk, OnOk};
-ghost use Rattle.dice_session.specs.SessionOf.{kept_text};
+ghost use Rattle.dice_program.specs.Kept.{kept_text};
 
 use dice_base::NoMemory;
 
