@@ -19,8 +19,8 @@ IsTold fault = Unit {0}
 
 -- the command of a tree, or the refusal of the text that is none
 abbrev pub command_with : {A : Type 0} → (A → Command) → Result A CommandFault → Command
-command_with command (Ok tree) = command tree
-command_with command (Err fault) = command.Bad fault
+command_with make (Ok tree) = make tree
+command_with make (Err fault) = command.Bad fault
 
 -- what a line asks for, with this text behind it, is this command
 abbrev pub IsAskedFor : Asked → List ℕ → Command → Type 0

@@ -1,5 +1,5 @@
 //! Commands: what a line is read as, with the text that it takes.
-ghost use Rattle.std.specs.Prelude.{◌≡◌, IfOk};
+ghost use Rattle.std.specs.Prelude.{◌≡◌, ◌≤◌, [], IfOk};
 ghost use Rattle.dice_command.specs.Line.{Load, Replace};
 ghost use Rattle.dice_command.specs.Command.{IsAskedFor, IsCommandOf, IsTold, IsWellRead, is_quit, takes_text};
 ghost use Rattle.dice_command.specs.declared.command.Command.TheVariants.{Bad};

@@ -59,7 +59,7 @@ impl Session {
         // The session and the machine are those of some world.
         requires lives { (w : World) × IsSessionOf w self.old machine.old }
         ensures { OnOk result ((w : World) → IsSessionOf w self.old machine.old
-            → Became (reply_of w command.entry) out.old out.new machine.old self.new machine.new) }
+            → Became (reply_of w command) out.old out.new machine.old self.new machine.new) }
     {
         match command {
             Command::Blank => Ok(()),
