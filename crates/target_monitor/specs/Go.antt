@@ -66,12 +66,13 @@ abbrev pub run_after_way : (ℕ → MachineAndConsole → GoResult) → ℕ → 
 run_after_way rest passed (s, k, None) = rest passed (s, k)
 run_after_way rest passed (s, k, Some end) = (s, k, record { end = end; passed = passed })
 
--- the output has less free room, in bytes, than is wanted
-abbrev pub must_drain : ℕ → ConsoleState → Bool
-must_drain room k = nat_lt (output_room k) room
+-- the output has less free room, in bytes, than is wanted, if any is
+abbrev pub must_drain : Option ℕ → ConsoleState → Bool
+must_drain None k = false
+must_drain (Some room) k = nat_lt (output_room k) room
 
 -- at a newly reached gate, with so many left to pass
-abbrev pub run_from_gate : ℕ → ℕ → ℕ → MachineAndConsole → GoResult
+abbrev pub run_from_gate : Option ℕ → ℕ → ℕ → MachineAndConsole → GoResult
 run_from_gate room zero passed m = (m.0, m.1, record { end = Counted; passed = passed })
 run_from_gate room (suc left) passed m =
     if break_here m then (m.0, m.1, record { end = AtBreak; passed = passed })
@@ -79,12 +80,12 @@ run_from_gate room (suc left) passed m =
     else run_after_way (run_from_gate room left) (passed + 1) (to_gate instruction_limit (gate_passed m)))
 
 -- a run of so many gates that has passed some, on the way to the next
-abbrev pub run_on_the_way : ℕ → ℕ → ℕ → MachineAndConsole → GoResult
+abbrev pub run_on_the_way : Option ℕ → ℕ → ℕ → MachineAndConsole → GoResult
 run_on_the_way room gates passed m =
     run_after_way (run_from_gate room (gates - passed)) passed (to_gate instruction_limit m)
 
--- so many gates, of which one that stands here is the first, with so much free room wanted at each
-abbrev pub go_result : ℕ → ℕ → MachineState → ConsoleState → GoResult
+-- so many gates, of which one that stands here is the first, with so much free room wanted at each, if any
+abbrev pub go_result : Option ℕ → ℕ → MachineState → ConsoleState → GoResult
 go_result room gates s k =
     if must_drain room k then (s, k, record { end = MustDrain; passed = 0 })
     else (if gate_here (s, k) then run_on_the_way room gates 1 (gate_passed (s, k))

@@ -3,7 +3,7 @@
 -- Places are byte addresses. The code area and the area of patches behind it reach from CODE_BYTE to GLOBALS_BYTE. Words
 -- are written there alone, but by Reset, which makes everything zero, and by Go, which executes instructions. A request
 -- that is refused changes nothing.
-use Rattle.std.specs.Prelude.{ℕ, ◌+◌, ◌-◌, ◌*◌, ◌/◌, ◌%◌, ◌^◌, ◌≤◌, min, Bool, true, false, ◌&&◌, nat_eq, nat_lt, nat_le, if◌then◌else◌, List, [], ◌∷◌, ◌++◌, length, take, drop}
+use Rattle.std.specs.Prelude.{ℕ, ◌+◌, ◌-◌, ◌*◌, ◌/◌, ◌%◌, ◌^◌, ◌≤◌, min, Bool, true, false, ◌&&◌, nat_eq, nat_lt, nat_le, if◌then◌else◌, Some, List, [], ◌∷◌, ◌++◌, length, take, drop}
 use Rattle.pdp11_machine.specs.State.{MachineState, word_at, with_word, with_reg, status_of, zero_machine}
 use Rattle.console_service.specs.declared.memory_map.TheConstants.{CODE_BYTE, GLOBALS_BYTE, MEMORY_END_BYTE}
 use Rattle.console_service.specs.declared.opcodes.TheConstants.{NOP, BPT}
@@ -97,7 +97,7 @@ after_run t (s, k, went) = (
 
 -- a Go, by how far the program has come
 abbrev pub after_go : ProgramStatus → ℕ → TargetState → TargetState × Reply
-after_go Unfinished gates t = after_run t (go_result GATE_ROOM_BYTES gates t.machine t.console)
+after_go Unfinished gates t = after_run t (go_result (Some GATE_ROOM_BYTES) gates t.machine t.console)
 after_go other gates t = refused t
 
 -- the request carried out, and the reply

@@ -40,9 +40,9 @@ const INSTRUCTION_LIMIT: u32 = 20_000_000;
 /// Runs the machine over at most so many gates. A gate that stands at PC is passed first and counted. At each newly
 /// reached gate the run ends as `Counted` where all were passed, or else as `AtBreak` where a break stands there, or
 /// else as `MustDrain` where the output has fewer than `room` free bytes, or else passes it. `MustDrain` comes also at
-/// the beginning, before anything is passed; with a room of 0 it never comes. The other ends come before the next gate.
+/// the beginning, before anything is passed; without a room it never comes. The other ends come before the next gate.
 /// Takes no memory.
-pub fn go(machine: &mut Machine, console: &mut Console, gates: u32, room: u32) -> Went
+pub fn go(machine: &mut Machine, console: &mut Console, gates: u32, room: Option<u32>) -> Went
     requires { 1 ≤ gates }
     ensures run { (machine.new, console.new, result) ≡ go_result room gates machine.old console.old }
     ensures few { result.passed ≤ gates }
@@ -66,7 +66,7 @@ fn run_gates(
     console: &mut Console,
     first: u32,
     gates: u32,
-    room: u32,
+    room: Option<u32>,
 ) -> Went
     requires { first ≤ gates }
     ensures run { (machine.new, console.new, result) ≡ run_on_the_way room gates first (machine.old, console.old) }
@@ -94,11 +94,14 @@ fn run_gates(
     Went { end, passed: gates }
 }
 
-// Whether the output has fewer free bytes than are wanted.
-fn must_drain(console: &Console, room: u32) -> bool
+// Whether the output has fewer free bytes than are wanted, if any are.
+fn must_drain(console: &Console, room: Option<u32>) -> bool
     ensures { result ≡ must_drain room console.now }
 {
-    console.free() < room
+    match room {
+        None => false,
+        Some(room) => console.free() < room,
+    }
 }
 
 // Executes instructions up to a gate, which is not executed: `None` there.

@@ -148,7 +148,7 @@ impl Target {
                     &mut self.machine,
                     &mut self.console,
                     gates as u32,
-                    GATE_ROOM_BYTES,
+                    Some(GATE_ROOM_BYTES),
                 );
                 self.status = status_after(went.end);
                 self.goes = self.goes.saturating_add(1);
