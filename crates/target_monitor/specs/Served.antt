@@ -3,7 +3,7 @@
 -- Places are byte addresses. The code area and the area of patches behind it reach from CODE_BYTE to GLOBALS_BYTE. Words
 -- are written there alone, but by Reset, which makes everything zero, and by Go, which executes instructions. A request
 -- that is refused changes nothing.
-use Rattle.std.specs.Prelude.{ℕ, ◌+◌, ◌-◌, ◌*◌, ◌/◌, ◌%◌, ◌^◌, ◌≤◌, min, Bool, true, false, ◌&&◌, nat_eq, nat_lt, nat_le, if◌then◌else◌, Some, List, [], ◌∷◌, ◌++◌, length, take, drop}
+use Rattle.std.specs.Prelude.{ℕ, ◌+◌, ◌-◌, ◌*◌, ◌/◌, ◌%◌, ◌^◌, ◌≤◌, min, Bool, ◌&&◌, nat_eq, nat_le, if◌then◌else◌, Some, List, [], ◌∷◌, ◌++◌, length, take, drop}
 use Rattle.pdp11_machine.specs.State.{MachineState, word_at, with_word, with_reg, status_of, zero_machine}
 use Rattle.console_service.specs.declared.memory_map.TheConstants.{CODE_BYTE, GLOBALS_BYTE, MEMORY_END_BYTE}
 use Rattle.console_service.specs.declared.opcodes.TheConstants.{NOP, BPT}

@@ -1,4 +1,4 @@
-use Rattle.std.proofs.Common.{◌≡◌, ℕ, ◌≤◌, ◌++◌, min, length, take, drop, sym, ap, ◌∙◌, arith}
+use Rattle.std.proofs.Common.{◌≡◌, min, length, take, drop, ap, ◌∙◌, arith}
 use Rattle.std.proofs.lemmas.List.{take_min, drop_min, take_at, length-take}
 use Rattle.target_monitor.proofs.transfer.drained.Goals as goal
 
