@@ -7,9 +7,22 @@ use Rattle.console_service.specs.declared.services.TheConstants as service
 use Rattle.console_service.specs.declared.console.Served.{Served}
 use Rattle.console_service.specs.declared.console.Served.TheVariants.{Done, Finished, Error, Full}
 
--- the bytes that were written and not yet drained
+-- the bytes that were written and not yet drained, and those that were fed and not yet read
 pub record ConsoleState : Type 0 where
   pub output : List ℕ
+  pub input : List ℕ
+
+-- both queues are empty
+abbrev pub empty_console : ConsoleState
+empty_console = record { output = []; input = [] }
+
+-- the free room of the output, in bytes
+abbrev pub output_room : ConsoleState → ℕ
+output_room k = CONSOLE_ROOM_BYTES - length k.output
+
+-- the free room of the input, in bytes
+abbrev pub input_room : ConsoleState → ℕ
+input_room k = CONSOLE_ROOM_BYTES - length k.input
 
 -- the services that are built: the end of the program, an integer, a line end
 abbrev pub is_service : ℕ → Bool

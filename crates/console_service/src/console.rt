@@ -1,7 +1,8 @@
-//! The console: the bytes that the program wrote, and the services that EMT instructions ask for.
-ghost use Rattle.std.specs.Prelude.{◌≡◌, ◌+◌, ◌≤◌, ◌∷◌, [], ◌++◌, length, take, drop, min, replicate, decimal, IfOk, IsTrue};
+//! The console: the bytes that the program wrote, those that were fed to it, and the services that EMT instructions ask
+//! for.
+ghost use Rattle.std.specs.Prelude.{◌≡◌, ◌+◌, ◌≤◌, ◌∷◌, [], ◌++◌, length, take, drop, min, replicate, decimal, nat_le, if◌then◌else◌, IfOk, IsTrue};
 ghost use Rattle.dice_base.specs.IntegerText.{integer_text};
-ghost use Rattle.console_service.specs.Console.{ConsoleState, is_service, sign_of, size_of, after_write, after_integer_write, service_result};
+ghost use Rattle.console_service.specs.Console.{ConsoleState, empty_console, input_room, is_service, sign_of, size_of, after_write, after_integer_write, service_result};
 
 use crate::{CONSOLE_ROOM_BYTES, services};
 use circular_buffer::HeapCircularBuffer;
@@ -28,31 +29,34 @@ pub enum Served {
 
 const SPACES: [u8; 255] = [b' '; 255];
 
-/// The console: an output of at most 65,536 bytes that were not yet drained.
+/// The console: an output of at most 65,536 bytes that were not yet drained, and an input of at most 65,536 bytes that
+/// were not yet read.
 #[derive(Drop)]
 pub struct Console {
     output: HeapCircularBuffer<u8>,
+    input: HeapCircularBuffer<u8>,
 }
 
 impl Model for Console {
-    ghost use Rattle.std.specs.Prelude.{◌≡◌};
+    ghost use Rattle.std.specs.Prelude.{◌≡◌, ◌≤◌, length};
     ghost use Rattle.console_service.specs.Console.{ConsoleState};
     ghost use Rattle.console_service.specs.declared.memory_map.TheConstants.{CONSOLE_ROOM_BYTES};
 
     ghost Value = { ConsoleState };
 
-    ghost view = { λ c. record { output = c.output.items } };
+    ghost view = { λ c. record { output = c.output.items; input = c.input.items } };
 
-    ghost invariant = { λ c. c.output.capacity ≡ CONSOLE_ROOM_BYTES };
+    ghost invariant = { λ c. (c.output.capacity ≡ CONSOLE_ROOM_BYTES) × (c.input.capacity ≡ CONSOLE_ROOM_BYTES) };
 }
 
 impl Console {
-    /// A console with nothing written. Its room is made at once.
+    /// A console with nothing written and nothing fed. The room of both queues is made at once.
     pub fn new(alloc: Global) -> Result<Console, NoMemory>
-        ensures { IfOk result (λ c. c.output ≡ []) }
+        ensures { IfOk result (λ c. c ≡ empty_console) }
     {
         let output = HeapCircularBuffer::with_capacity(alloc, CONSOLE_ROOM_BYTES as usize)?;
-        Ok(Console { output })
+        let input = HeapCircularBuffer::with_capacity(alloc, CONSOLE_ROOM_BYTES as usize)?;
+        Ok(Console { output, input })
     }
 
     /// The number of bytes that may still be written.
@@ -62,21 +66,43 @@ impl Console {
         (self.output.capacity() - self.output.len()) as u32
     }
 
+    /// The number of bytes that were fed and not yet read.
+    pub fn unread(&self) -> u32
+        ensures bytes { result ≡ length self.now.input }
+        ensures within { result ≤ CONSOLE_ROOM_BYTES }
+    {
+        self.input.len() as u32
+    }
+
+    /// Adds the bytes to the input. False, and nothing is changed, exactly where they do not fit. Takes no memory.
+    pub fn feed(&mut self, bytes: &[u8]) -> bool
+        ensures fits { result ≡ nat_le (length bytes.now) (input_room self.old) }
+        ensures fed { self.new ≡ (if result
+            then record self.old { input = self.old.input ++ bytes.now } else self.old) }
+    {
+        if bytes.len() > (CONSOLE_ROOM_BYTES - self.unread()) as usize {
+            return false;
+        }
+        self.input.fill_from_slice(bytes);
+        true
+    }
+
     /// Moves the first bytes of the output to the front of the piece, as many as there are and fit, and gives
-    /// their number.
+    /// their number. Takes no memory.
     pub fn drain(&mut self, into: &mut [u8]) -> usize
         ensures count { result ≡ min (length into.old) (length self.old.output) }
         ensures moved { into.new ≡ take result self.old.output ++ drop result into.old }
-        ensures kept { self.new.output ≡ drop result self.old.output }
+        ensures kept { self.new ≡ record self.old { output = drop result self.old.output } }
     {
         self.output.read_into(into)
     }
 
-    /// Drops all that was written and not yet drained.
+    /// Empties both queues.
     pub fn reset(&mut self)
-        ensures { self.new.output ≡ [] }
+        ensures { self.new ≡ empty_console }
     {
         self.output.clear();
+        self.input.clear();
     }
 
     /// Does the service of this number, one of those that are built: 0 the program has ended, 4 writes the integer

@@ -57,5 +57,6 @@ pub const MEMORY_END_BYTE: u16 = MEMORY_BYTES;
 /// The word number at which the memory ends.
 pub const MEMORY_END_WORD: u16 = MEMORY_WORDS;
 
-/// How many bytes the console keeps until they are drained.
+/// How many bytes each of the console's queues holds: those that were written and not yet drained, and those that were
+/// fed and not yet read.
 pub const CONSOLE_ROOM_BYTES: u32 = 65_536;

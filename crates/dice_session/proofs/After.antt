@@ -249,7 +249,7 @@ after ss is es gates t r places parts long g = subst (After ss t) (sym g.tells) 
 -- ---- what is said of a run
 
 pub ran : (ss : List Statement) (gates : ℕ) (s : PascalState) (machine : MachineState) (console : ConsoleState) (before after_all : List ℕ) (r : MachineState × ConsoleState × Went) (k : ConsoleState)
-    → IsProgram ss → 1 ≤ gates → r ≡ go_result gates machine console → length r.0.memory ≡ MEMORY_END_WORD → k.output ≡ []
+    → IsProgram ss → 1 ≤ gates → r ≡ go_result None gates machine console → length r.0.memory ≡ MEMORY_END_WORD → k.output ≡ []
     → after_all ≡ (before ++ written_part r.1.output) ++ ending_text ss r.2.end (reg r.0 7 / 2) → CanRunFrom ss s machine console → Ran ss gates s (ends r.2.end) before after_all r.0 k
 ran ss gates s machine console before after_all r k is some same long empty told h =
     let t = run_of (program_of ss) gates s in

@@ -1,5 +1,5 @@
 -- A run on the machine is the run of the plain machine.
-use Rattle.std.proofs.Common.{◌≡◌, ℕ, ◌+◌, ◌<◌, ◌≤◌, Bool, true, false, List, [], ◌∷◌, Option, Some, refl, sym, ap, ◌∙◌, subst, arith}
+use Rattle.std.proofs.Common.{◌≡◌, ℕ, ◌+◌, ◌<◌, ◌≤◌, Bool, true, false, List, [], ◌∷◌, Option, Some, None, refl, sym, ap, ◌∙◌, subst, arith}
 use Rattle.std.specs.Prelude.{◌==◌, if◌then◌else◌, find}
 use Rattle.pdp11_machine.specs.State.{MachineState}
 use Rattle.console_service.specs.Console.{ConsoleState}
@@ -65,7 +65,7 @@ module _ (ss : List Statement) (is : IsProgram ss) where
       subst (λ b. GoodNamed ss is b (record { name = n; start = At Gate; data_now = record { globals = globals; output = []; started = true }; older = [] })) (sym (not_program ss n row is.free e))
       (record { words = words; room = omega (arith, left_most ss n, is.fits) })
 
-  pub gate_gone : (es : ℕ → Option Block) (gates n : ℕ) (row : Row) (globals : List ℕ) (c : Cpu) → 1 ≤ gates → row_of P n ≡ Some row → AreWords globals → HasImage simple B es unmarked c.mem → BlocksRepresent simple B es (stage_of (before_gate n globals [])) c → Gone es gates (driven gates P (before_gate n globals [])) (go_result gates (state_of c).0 (state_of c).1)
+  pub gate_gone : (es : ℕ → Option Block) (gates n : ℕ) (row : Row) (globals : List ℕ) (c : Cpu) → 1 ≤ gates → row_of P n ≡ Some row → AreWords globals → HasImage simple B es unmarked c.mem → BlocksRepresent simple B es (stage_of (before_gate n globals [])) c → Gone es gates (driven gates P (before_gate n globals [])) (go_result None gates (state_of c).0 (state_of c).1)
   gate_gone es gates n row globals c some e words image stands =
       let d = driven_is ss is.free gates n row globals [] e in
       let x = stage_of (before_gate n globals []) in
@@ -89,7 +89,7 @@ first_driven (x ∷ ss) is gates s =
 
 -- from the begin of the program
 begin_gone : (ss : List Statement) (is : IsProgram ss) (es : ℕ → Option Block) (gates : ℕ) (s : PascalState) (c : Cpu) → AreWords s.globals → gate_here (state_of c) ≡ false → HasImage simple (blocks_of (program_of ss)) es unmarked c.mem → BlocksRepresent simple (blocks_of (program_of ss)) es (unstarted s.globals) c
-    → Gone ss is es gates (driven gates (program_of ss) (started_by NotStarted (program_of ss) (unwritten s))) (go_result gates (state_of c).0 (state_of c).1)
+    → Gone ss is es gates (driven gates (program_of ss) (started_by NotStarted (program_of ss) (unwritten s))) (go_result None gates (state_of c).0 (state_of c).1)
 begin_gone ss is es gates s c words no_gate image stands =
     let B = blocks_of (program_of ss) in
     let d = first_driven ss is gates s in
@@ -103,8 +103,8 @@ begin_gone ss is es gates s c words no_gate image stands =
 -- ---- from one simulated state to another
 
 -- a run on a machine that stands for a state
-pub run_gone : (ss : List Statement) (is : IsProgram ss) (s : PascalState) (gates : ℕ) (machine : MachineState) (console : ConsoleState) → 1 ≤ gates → IsWellFormed ss s → is_over (progress_of s.status) ≡ false → (h : HoldsProgram ss s machine console) → Gone ss is h.blocks gates (run_of (program_of ss) gates s) (go_result gates machine console)
-run_gone ss is s gates machine console some formed can h = subst (λ m. Gone ss is h.blocks gates (run_of P gates s) (go_result gates m.0 m.1)) h.is (by s.status refl can h.represents.control h.represents.frames)
+pub run_gone : (ss : List Statement) (is : IsProgram ss) (s : PascalState) (gates : ℕ) (machine : MachineState) (console : ConsoleState) → 1 ≤ gates → IsWellFormed ss s → is_over (progress_of s.status) ≡ false → (h : HoldsProgram ss s machine console) → Gone ss is h.blocks gates (run_of (program_of ss) gates s) (go_result None gates machine console)
+run_gone ss is s gates machine console some formed can h = subst (λ m. Gone ss is h.blocks gates (run_of P gates s) (go_result None gates m.0 m.1)) h.is (by s.status refl can h.represents.control h.represents.frames)
   where
     P : PascalProgram
     P = program_of ss
@@ -115,22 +115,22 @@ run_gone ss is s gates machine console some formed can h = subst (λ m. Gone ss 
     words : AreWords s.globals
     words = h.represents.variables.small
 
-    begin : AtBegin (h.blocks program_name) c → c.sp ≡ MEMORY_END_WORD → Gone ss is h.blocks gates (driven gates P (started_by NotStarted P (unwritten s))) (go_result gates (state_of c).0 (state_of c).1)
+    begin : AtBegin (h.blocks program_name) c → c.sp ≡ MEMORY_END_WORD → Gone ss is h.blocks gates (driven gates P (started_by NotStarted P (unwritten s))) (go_result None gates (state_of c).0 (state_of c).1)
     begin at sp =
         begin_gone ss is h.blocks gates s c words at.no_gate h.image
         (record { form = ProgramBlock; has = refl; fits = tt; block = at.lies; entry = at.is; offset = 0; start = at.begin; place = omega (arith, at.place); long = h.long; holds = record { globals_are = h.represents.variables; frame = sp; console = h.represents.console }; waits = tt })
 
-    gate : (n : ℕ) (row : Row) → row_of P n ≡ Some row → AtGate (h.blocks n) c → HasFrame c → Gone ss is h.blocks gates (driven gates P (before_gate n s.globals [])) (go_result gates (state_of c).0 (state_of c).1)
+    gate : (n : ℕ) (row : Row) → row_of P n ≡ Some row → AtGate (h.blocks n) c → HasFrame c → Gone ss is h.blocks gates (driven gates P (before_gate n s.globals [])) (go_result None gates (state_of c).0 (state_of c).1)
     gate n row e at frame =
         gate_gone ss is h.blocks gates n row s.globals c some e words h.image
         (record { form = StatementBlock row.form; has = form_at ss is.free n row e; fits = tt; block = at.lies; entry = at.is; offset = 0; start = at.gate; place = omega (arith, at.place); long = h.long; holds = record { globals_are = h.represents.variables; frame = frame; console = h.represents.console }; waits = tt })
 
-    by : (x : Status) → s.status ≡ x → is_over (progress_of x) ≡ false → StandsAt h.blocks x s.activations c → HasFrames x c → Gone ss is h.blocks gates (run_of P gates s) (go_result gates (state_of c).0 (state_of c).1)
-    by NotStarted e g at frames = subst (λ t. Gone ss is h.blocks gates (driven gates P t) (go_result gates (state_of c).0 (state_of c).1)) (sym (ap (λ x. started_by x P (unwritten s)) e)) (begin at frames)
+    by : (x : Status) → s.status ≡ x → is_over (progress_of x) ≡ false → StandsAt h.blocks x s.activations c → HasFrames x c → Gone ss is h.blocks gates (run_of P gates s) (go_result None gates (state_of c).0 (state_of c).1)
+    by NotStarted e g at frames = subst (λ t. Gone ss is h.blocks gates (driven gates P t) (go_result None gates (state_of c).0 (state_of c).1)) (sym (ap (λ x. started_by x P (unwritten s)) e)) (begin at frames)
     by Halted e g at frames =
         let (n, row, found, acts) = formed.halted e in
         let same : unwritten s ≡ before_gate n s.globals [] = ap (λ x. record (unwritten s) { status = x }) e ∙ ap (λ a. record { status = Halted; activations = a; globals = s.globals; output = [] }) acts in
         let same2 : started P (unwritten s) ≡ before_gate n s.globals [] = ap (λ x. started_by x P (unwritten s)) e ∙ same in
-        subst (λ t. Gone ss is h.blocks gates (driven gates P t) (go_result gates (state_of c).0 (state_of c).1)) (sym same2) (gate n row found (subst (λ a. AtNewest h.blocks a c) acts at).1 frames)
+        subst (λ t. Gone ss is h.blocks gates (driven gates P t) (go_result None gates (state_of c).0 (state_of c).1)) (sym same2) (gate n row found (subst (λ a. AtNewest h.blocks a c) acts at).1 frames)
     by IsEnded e g at frames = absurd (cc g)
     by (HasFailed error name) e g at frames = absurd (cc g)

@@ -30,7 +30,7 @@ pub(crate) fn run(
     ensures { IfOk result (λ over. (s : State) → CanRunFrom statements.now s machine.old console.old
         → Ran statements.now gates s over out.old out.new machine.new console.new) }
 {
-    let went = go(machine, console, gates);
+    let went = go(machine, console, gates, None);
     let place = (machine.register(7) / 2) as u32;
     let written = take_output(alloc, console)?;
     push_written(alloc, out, &written)?;

@@ -48,7 +48,7 @@ fn run(alloc: Global, words: [u16; 5], gates: u32) -> Result<(Went, u16), Fail>
     machine.poke(CODE_BYTE + 8, words[4]);
     machine.set_register(7, CODE_BYTE);
     let mut console = Console::new(alloc)?;
-    let went = go(&mut machine, &mut console, gates);
+    let went = go(&mut machine, &mut console, gates, None);
     Ok((went, machine.register(7).wrapping_sub(CODE_BYTE) / 2))
 }
 

@@ -133,7 +133,7 @@ module _ {Form Path Data : Type 0} (M : Semantics Form Path Data) where
 
     -- from where a state rests, with so many gates left to pass
     arrive : (k count : ℕ) (y : StretchState Path Data) (e : Cpu) → stretch_rests y ≡ true → Good y → RepresentsStretch M P es y e → HasImage M P es marks e.mem → IsLive (stretch_unless (ends_run marks y) y (λ y. drive M P short marks k y))
-        → GoGives P es marks (count + k) (count + sum_unless (ends_run marks y) (gates_passed M P short marks k y)) (stretch_unless (ends_run marks y) y (λ y. drive M P short marks k y)) (run_after_way (run_from_gate k) count (rested y e))
+        → GoGives P es marks (count + k) (count + sum_unless (ends_run marks y) (gates_passed M P short marks k y)) (stretch_unless (ends_run marks y) y (λ y. drive M P short marks k y)) (run_after_way (run_from_gate None k) count (rested y e))
     arrive k count (Ended n d) e rest good st image live = let z : count ≡ count + 0 = omega arith in (e, st, image, ap (λ n. ((state_of (passed e)).0, (state_of (passed e)).1, record { end = end.Ended; passed = n })) z)
     arrive k count (Failed error n d) e rest good st image live = let z : count ≡ count + 0 = omega arith in (e, st, image, ap (λ n. ((state_of (passed e)).0, (state_of (passed e)).1, record { end = end.Error error; passed = n })) z)
     arrive k count Stuck e rest good st image live = absurd live
@@ -145,12 +145,12 @@ module _ {Form Path Data : Type 0} (M : Semantics Form Path Data) where
     arrive (suc k) count (Goes s) e rest good st image live =
         let stands = gate_stands P es marks s e rest image st in
         let breaks = (gate_at (marks s.name) e (omega (arith, stands.0)) stands.1).1 in
-        subst (λ h. GoGives P es marks (count + suc k) (count + sum_unless (marks s.name) (gates_passed M P short marks (suc k) (Goes s))) (stretch_unless (marks s.name) (Goes s) (λ y. drive M P short marks (suc k) y)) (if h then ((state_of e).0, (state_of e).1, record { end = end.AtBreak; passed = count }) else run_after_way (run_from_gate k) (count + 1) (to_gate instruction_limit (gate_passed (state_of e))))) (sym breaks)
+        subst (λ h. GoGives P es marks (count + suc k) (count + sum_unless (marks s.name) (gates_passed M P short marks (suc k) (Goes s))) (stretch_unless (marks s.name) (Goes s) (λ y. drive M P short marks (suc k) y)) (if h then ((state_of e).0, (state_of e).1, record { end = end.AtBreak; passed = count }) else run_after_way (run_from_gate None k) (count + 1) (to_gate instruction_limit (gate_passed (state_of e))))) (sym breaks)
         (by (marks s.name) live (λ y c r g t i l. arrive k (count + 1) y c r g t i l))
       where
         by : (b : Bool) → IsLive (stretch_unless b (Goes s) (λ y. drive M P short marks (suc k) y))
-            → ((y : StretchState Path Data) (c : Cpu) → stretch_rests y ≡ true → Good y → RepresentsStretch M P es y c → HasImage M P es marks c.mem → IsLive (stretch_unless (ends_run marks y) y (λ y. drive M P short marks k y)) → GoGives P es marks (count + 1 + k) (count + 1 + sum_unless (ends_run marks y) (gates_passed M P short marks k y)) (stretch_unless (ends_run marks y) y (λ y. drive M P short marks k y)) (run_after_way (run_from_gate k) (count + 1) (rested y c)))
-            → GoGives P es marks (count + suc k) (count + sum_unless b (gates_passed M P short marks (suc k) (Goes s))) (stretch_unless b (Goes s) (λ y. drive M P short marks (suc k) y)) (if b then ((state_of e).0, (state_of e).1, record { end = end.AtBreak; passed = count }) else run_after_way (run_from_gate k) (count + 1) (to_gate instruction_limit (gate_passed (state_of e))))
+            → ((y : StretchState Path Data) (c : Cpu) → stretch_rests y ≡ true → Good y → RepresentsStretch M P es y c → HasImage M P es marks c.mem → IsLive (stretch_unless (ends_run marks y) y (λ y. drive M P short marks k y)) → GoGives P es marks (count + 1 + k) (count + 1 + sum_unless (ends_run marks y) (gates_passed M P short marks k y)) (stretch_unless (ends_run marks y) y (λ y. drive M P short marks k y)) (run_after_way (run_from_gate None k) (count + 1) (rested y c)))
+            → GoGives P es marks (count + suc k) (count + sum_unless b (gates_passed M P short marks (suc k) (Goes s))) (stretch_unless b (Goes s) (λ y. drive M P short marks (suc k) y)) (if b then ((state_of e).0, (state_of e).1, record { end = end.AtBreak; passed = count }) else run_after_way (run_from_gate None k) (count + 1) (to_gate instruction_limit (gate_passed (state_of e))))
         by true live later = (e, st, image, told_break (count + suc k) count (λ n. absurd (omega (arith, n))) s e ∙ ap (λ n. told (count + suc k) n (Goes s) e) (let z : count ≡ count + 0 = omega arith in z))
         by false live later =
             let y = settle M P short (stretch M P s) in
@@ -160,11 +160,11 @@ module _ {Form Path Data : Type 0} (M : Semantics Form Path Data) where
             let (e2, st2, image2, same) = later y e1 (settled_rests P short (stretch M P s) live1) good1 st1 image1 live in
             let gates : count + 1 + k ≡ count + suc k = omega arith in
             let passes_on : count + 1 + sum_unless (ends_run marks y) (gates_passed M P short marks k y) ≡ count + (1 + sum_unless (ends_run marks y) (gates_passed M P short marks k y)) = omega arith in
-            (e2, st2, image2, ap (run_after_way (run_from_gate k) (count + 1)) way ∙ same ∙ ap (λ n. told n (count + 1 + sum_unless (ends_run marks y) (gates_passed M P short marks k y)) (drive M P short marks (suc k) (Goes s)) e2) gates ∙ ap (λ n. told (count + suc k) n (drive M P short marks (suc k) (Goes s)) e2) passes_on)
+            (e2, st2, image2, ap (run_after_way (run_from_gate None k) (count + 1)) way ∙ same ∙ ap (λ n. told n (count + 1 + sum_unless (ends_run marks y) (gates_passed M P short marks k y)) (drive M P short marks (suc k) (Goes s)) e2) gates ∙ ap (λ n. told (count + suc k) n (drive M P short marks (suc k) (Goes s)) e2) passes_on)
 
     -- Go over a memory that holds a program is the run of the program, from a gate
     pub go_runs : (gates : ℕ) (s : Now Path Data) (c : Cpu) → 1 ≤ gates → Good (Goes s) → is_gate s.start ≡ true → HasImage M P es marks c.mem → Before M P es s c → IsLive (drive M P short marks gates (Goes s))
-        → GoGives P es marks gates (gates_passed M P short marks gates (Goes s)) (drive M P short marks gates (Goes s)) (go_result gates (state_of c).0 (state_of c).1)
+        → GoGives P es marks gates (gates_passed M P short marks gates (Goes s)) (drive M P short marks gates (Goes s)) (go_result None gates (state_of c).0 (state_of c).1)
     go_runs zero s c some good gate image st live = absurd (omega (arith, some))
     go_runs (suc k) s c some good gate image st live =
         let y = settle M P short (stretch M P s) in
@@ -176,11 +176,11 @@ module _ {Form Path Data : Type 0} (M : Semantics Form Path Data) where
         let here = (gate_at (marks s.name) c (omega (arith, stands.0)) stands.1).0 in
         let less : suc k - 1 ≡ k = omega arith in
         let gates : 1 + k ≡ suc k = omega arith in
-        (e2, st2, image2, ap (λ b. if b then run_on_the_way (suc k) 1 (gate_passed (state_of c)) else run_on_the_way (suc k) 0 (state_of c)) here ∙ ap (λ j. run_after_way (run_from_gate j) 1 (to_gate instruction_limit (gate_passed (state_of c)))) less ∙ ap (run_after_way (run_from_gate k) 1) way ∙ same ∙ ap (λ n. told n (1 + sum_unless (ends_run marks y) (gates_passed M P short marks k y)) (drive M P short marks (suc k) (Goes s)) e2) gates)
+        (e2, st2, image2, ap (λ b. if b then run_on_the_way None (suc k) 1 (gate_passed (state_of c)) else run_on_the_way None (suc k) 0 (state_of c)) here ∙ ap (λ j. run_after_way (run_from_gate None j) 1 (to_gate instruction_limit (gate_passed (state_of c)))) less ∙ ap (run_after_way (run_from_gate None k) 1) way ∙ same ∙ ap (λ n. told n (1 + sum_unless (ends_run marks y) (gates_passed M P short marks k y)) (drive M P short marks (suc k) (Goes s)) e2) gates)
 
     -- the same from a state that does not rest, as the begin of the program: its first gate is newly reached
     pub go_from_runs : (gates : ℕ) (x : StretchState Path Data) (c : Cpu) → gate_here (state_of c) ≡ false → Good x → spent M P short x < instruction_limit → HasImage M P es marks c.mem → RepresentsStretch M P es x c → IsLive (drive_from M P short marks gates x)
-        → GoGives P es marks gates (gates_from M P short marks gates x) (drive_from M P short marks gates x) (go_result gates (state_of c).0 (state_of c).1)
+        → GoGives P es marks gates (gates_from M P short marks gates x) (drive_from M P short marks gates x) (go_result None gates (state_of c).0 (state_of c).1)
     go_from_runs gates x c no_gate good lt image st live =
         let y = settle M P short x in
         let live1 = onward_live P short marks gates y live in
@@ -192,4 +192,4 @@ module _ {Form Path Data : Type 0} (M : Semantics Form Path Data) where
         let less : gates - 0 ≡ gates = omega arith in
         let all : 0 + gates ≡ gates = omega arith in
         let sum : 0 + gates_from M P short marks gates x ≡ gates_from M P short marks gates x = omega arith in
-        (e2, st2, image2, ap (λ b. if b then run_on_the_way gates 1 (gate_passed (state_of c)) else run_on_the_way gates 0 (state_of c)) no_gate ∙ ap (λ j. run_after_way (run_from_gate j) 0 (to_gate instruction_limit (state_of c))) less ∙ ap (run_after_way (run_from_gate gates) 0) (same ∙ told_there) ∙ after ∙ ap (λ n. told n (0 + gates_from M P short marks gates x) (drive_from M P short marks gates x) e2) all ∙ ap (λ n. told gates n (drive_from M P short marks gates x) e2) sum)
+        (e2, st2, image2, ap (λ b. if b then run_on_the_way None gates 1 (gate_passed (state_of c)) else run_on_the_way None gates 0 (state_of c)) no_gate ∙ ap (λ j. run_after_way (run_from_gate None j) 0 (to_gate instruction_limit (state_of c))) less ∙ ap (run_after_way (run_from_gate None gates) 0) (same ∙ told_there) ∙ after ∙ ap (λ n. told n (0 + gates_from M P short marks gates x) (drive_from M P short marks gates x) e2) all ∙ ap (λ n. told gates n (drive_from M P short marks gates x) e2) sum)

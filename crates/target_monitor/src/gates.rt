@@ -2,7 +2,7 @@
 ghost use Rattle.std.specs.Prelude.{◌≡◌, ◌+◌, ◌≤◌, ◌%◌, Some};
 ghost use Rattle.pdp11_machine.specs.State.{reg, word_at, with_reg};
 ghost use Rattle.console_service.specs.Run.{is_gate_word};
-ghost use Rattle.target_monitor.specs.Go.{end_of, is_break_word, to_gate, run_on_the_way, go_result};
+ghost use Rattle.target_monitor.specs.Go.{end_of, is_break_word, must_drain, to_gate, run_on_the_way, go_result};
 
 use console_service::{BPT, Console, NOP, Stop, execute};
 use pdp11_machine::{MEMORY_BYTES, Machine};
@@ -18,7 +18,7 @@ pub enum GoEnd {
     Ended,
     /// The program is in the run-time error of this number.
     Error(u16),
-    /// The output is to be drained first.
+    /// The output has less free room than is wanted at a gate, and is to be drained first.
     MustDrain,
     /// No gate came within 20,000,000 instructions.
     Overrun,
@@ -39,23 +39,38 @@ const INSTRUCTION_LIMIT: u32 = 20_000_000;
 
 /// Runs the machine over at most so many gates. A gate that stands at PC is passed first and counted. At each newly
 /// reached gate the run ends as `Counted` where all were passed, or else as `AtBreak` where a break stands there, or
-/// else passes it. The other ends come before the next gate.
-pub fn go(machine: &mut Machine, console: &mut Console, gates: u32) -> Went
+/// else as `MustDrain` where the output has fewer than `room` free bytes, or else passes it. `MustDrain` comes also at
+/// the beginning, before anything is passed; without a room it never comes. The other ends come before the next gate.
+/// Takes no memory.
+pub fn go(machine: &mut Machine, console: &mut Console, gates: u32, room: Option<u32>) -> Went
     requires { 1 ≤ gates }
-    ensures { (machine.new, console.new, result) ≡ go_result gates machine.old console.old }
+    ensures run { (machine.new, console.new, result) ≡ go_result room gates machine.old console.old }
+    ensures few { result.passed ≤ gates }
 {
-    if at_gate(machine) {
+    if must_drain(console, room) {
+        Went {
+            end: GoEnd::MustDrain,
+            passed: 0,
+        }
+    } else if at_gate(machine) {
         pass_gate(machine);
-        run_gates(machine, console, 1, gates)
+        run_gates(machine, console, 1, gates, room)
     } else {
-        run_gates(machine, console, 0, gates)
+        run_gates(machine, console, 0, gates, room)
     }
 }
 
 // The rest of a run that has passed so many gates, where it is on the way to the next one.
-fn run_gates(machine: &mut Machine, console: &mut Console, first: u32, gates: u32) -> Went
+fn run_gates(
+    machine: &mut Machine,
+    console: &mut Console,
+    first: u32,
+    gates: u32,
+    room: Option<u32>,
+) -> Went
     requires { first ≤ gates }
-    ensures { (machine.new, console.new, result) ≡ run_on_the_way gates first (machine.old, console.old) }
+    ensures run { (machine.new, console.new, result) ≡ run_on_the_way room gates first (machine.old, console.old) }
+    ensures few { result.passed ≤ gates }
 {
     for passed in first..gates {
         if let Some(end) = run_to_gate(machine, console, INSTRUCTION_LIMIT) {
@@ -67,10 +82,26 @@ fn run_gates(machine: &mut Machine, console: &mut Console, first: u32, gates: u3
                 passed,
             };
         }
+        if must_drain(console, room) {
+            return Went {
+                end: GoEnd::MustDrain,
+                passed,
+            };
+        }
         pass_gate(machine);
     }
     let end = run_to_gate(machine, console, INSTRUCTION_LIMIT).unwrap_or(GoEnd::Counted);
     Went { end, passed: gates }
+}
+
+// Whether the output has fewer free bytes than are wanted, if any are.
+fn must_drain(console: &Console, room: Option<u32>) -> bool
+    ensures { result ≡ must_drain room console.now }
+{
+    match room {
+        None => false,
+        Some(room) => console.free() < room,
+    }
 }
 
 // Executes instructions up to a gate, which is not executed: `None` there.
