@@ -1,0 +1,4 @@
+pub mod Target
+pub mod Exchange
+pub mod Host
+pub mod Carried
