@@ -1,9 +1,7 @@
 -- What deliveries do to a target's end that is in step with a host whose request waits.
-use Rattle.std.proofs.Common.{◌≡◌, ◌<◌, ◌≤◌, ◌⊎◌, ◌&&◌, ℕ, ◌+◌, ◌-◌, ◌^◌, min, Bool, true, false, nat_eq, nat_lt, nat_le, if◌then◌else◌, List, [], ◌∷◌, ◌++◌, Option, None, Some, IfSome, IsSome, length, take, refl, sym, ap, subst, ◌∙◌, arith, inl, inr, suc, zero}
+use Rattle.std.proofs.Common.{◌≡◌, ◌<◌, ◌≤◌, ◌⊎◌, ◌&&◌, ℕ, ◌+◌, ◌-◌, ◌^◌, min, Bool, true, false, nat_eq, nat_lt, nat_le, if◌then◌else◌, List, [], ◌∷◌, ◌++◌, Option, None, Some, IfSome, IsSome, option_map, length, take, refl, sym, ap, subst, ◌∙◌, arith, inl, inr, suc, zero}
 use Rattle.std.proofs.lemmas.Bool.{eqb-true, eq-eqb}
 use Rattle.std.specs.Option.{option_to_list}
-use Rattle.console_service.specs.Console.{ConsoleState}
-use Rattle.pdp11_machine.specs.State.{MachineState}
 use Rattle.target_monitor.specs.declared.requests.Request.{Request}
 use Rattle.target_monitor.specs.declared.requests.Request.TheVariants as request
 use Rattle.target_monitor.specs.declared.requests.Reply.{Reply}
@@ -13,11 +11,13 @@ use Rattle.target_monitor.specs.Go.{GoResult}
 use Rattle.target_monitor.specs.Served.{TargetState, served, after_run, after_go}
 use Rattle.link_frames.specs.declared.frames.RequestFrame.{RequestFrame}
 use Rattle.link_frames.specs.declared.frames.AnswerFrame.{AnswerFrame}
-use Rattle.link_frames.specs.Frames.{request_of, answer_of, answer_frame, IsReadReply}
+use Rattle.link_frames.specs.Frames.{request_of, answer_of, answer_frame, request_frame, IsReadReply, IsReadRequest}
 use Rattle.link_frames.specs.Laws.{answer_of-number}
 use Rattle.monitor_link.specs.declared.link.TheConstants.{KEPT_FRAMES}
 use Rattle.monitor_link.specs.Target.{EndState, target_after, reply_to, executed, taken_frame, kept_answer, delivered, given, all_delivered, all_given}
-use Rattle.monitor_link.specs.Exchange.{Among, frames_with, Exchanged}
+use Rattle.monitor_link.specs.declared.link.Heard.{Heard}
+use Rattle.monitor_link.specs.declared.link.Heard.TheVariants.{Answer}
+use Rattle.monitor_link.specs.Exchange.{Among, answer_heard, frames_with, Exchanged}
 use Rattle.monitor_link.specs.Host.{HostState, BelongsTo, Agrees, Reaches, IsAt, IsSynchronized, AtMostOnce, IsBase, IsKeptFrame, request_in_frame, waiting_request, sender, next_number}
 
 if-either : {A : Type 0} (P : A → Type 0) (b : Bool) (x y : A) → (b ≡ true → P x) → (b ≡ false → P y) → P (if b then x else y)
@@ -131,8 +131,8 @@ agrees-given t a (f ∷ fs) h = elim (among-append a (option_to_list (given t f)
 ]
 
 -- a request raises the counts of Resets and Gos by one at most
-Counts : TargetState → TargetState → Type 0
-abbrev Counts t u = u.resets + u.goes ≤ t.resets + t.goes + 1
+abbrev Counts : TargetState → TargetState → Type 0
+Counts t u = u.resets + u.goes ≤ t.resets + t.goes + 1
 
 counts-run : (t : TargetState) (x : GoResult) → Counts t (after_run t x).0
 counts-run t (s, k, went) = omega arith
@@ -265,6 +265,16 @@ step-down n r frame heard t s frames olds news c d fits says step e unheard = el
       (kept-read u (subst (λ (x : EndState). IsReadReply x.kept) came e.reads) n last step.at.0 fits) last)
 ]
 
+-- what the frame that was written for a request says
+pub frame-says : (r : Request) (n : ℕ) (frame : List ℕ) → IsReadRequest r → 0 < n → n < 2 ^ 64
+    → frame ≡ request_frame (record { number = n; request = r }) → request_of frame ≡ Some (record { number = n; request = r })
+unfolding IsReadRequest
+frame-says r n frame reads some fits e = ap request_of e ∙ reads n (some, fits)
+
+-- so that request waits
+pub says-waiting : (r : Request) (n : ℕ) (frame : List ℕ) → request_of frame ≡ Some (record { number = n; request = r }) → request_in_frame frame ≡ Some r
+says-waiting r n frame e = ap (λ (o : Option RequestFrame). option_map (λ (f : RequestFrame). f.request) o) e
+
 -- a new request
 pub begins : (t : EndState) (frames olds : List (List ℕ)) (n : ℕ) (r : Request) → IsSynchronized (record { number = n; waits = None }) t frames olds
     → IsSynchronized (host_of (n + 1) r) t frames olds
@@ -299,3 +309,49 @@ pub starts : (t : EndState) (frames olds : List (List ℕ)) (n : ℕ) (waits : O
     → IsSynchronized (host_of (next_number waits n) r) t frames olds
 starts t frames olds n None r s same = begins t frames olds n r s
 starts t frames olds n (Some q) r s same = subst (λ (x : Request). IsSynchronized (host_of n x) t frames olds) same s
+
+-- The same for the host that sends a frame, while the request that it says waits
+
+sender-is : (n : ℕ) (frame : List ℕ) (says : IsKeptFrame true n frame) → sender n frame ≡ host_of n says.0
+sender-is n frame says = ap (λ (w : Option Request). record { number = n; waits = w }) (says-waiting says.0 n frame says.1)
+
+pub sender-step : (n : ℕ) (frame : List ℕ) (heard : Option (List ℕ)) (t s : EndState) (frames olds news : List (List ℕ)) (c d : ℕ)
+    → IsKeptFrame true n frame → IsSynchronized (sender n frame) t frames olds → Exchanged frame heard t s frames olds news c d
+    → IsSynchronized (sender n frame) s (frames_with frame frames) news
+sender-step n frame heard t s frames olds news c d says step e =
+    subst (λ (h : HostState). IsSynchronized h s (frames_with frame frames) news) (sym (sender-is n frame says))
+    (exchange-step n says.0 frame heard t s frames olds news c d says.1
+      (subst (λ (h : HostState). IsSynchronized h t frames olds) (sender-is n frame says) step) e)
+
+pub sender-once : (n : ℕ) (frame : List ℕ) (heard : Option (List ℕ)) (t s : EndState) (frames olds news : List (List ℕ)) (c d : ℕ)
+    → IsKeptFrame true n frame → IsSynchronized (sender n frame) t frames olds → Exchanged frame heard t s frames olds news c d
+    → (r : Request) (base : EndState) → request_in_frame frame ≡ Some r → base.last + 1 ≡ n → AtMostOnce base r t → AtMostOnce base r s
+sender-once n frame heard t s frames olds news c d says step e r base waits at once =
+    let same : says.0 ≡ r = some-inj says.0 r (sym (says-waiting says.0 n frame says.1) ∙ waits) in
+    subst (λ (q : Request). AtMostOnce base q s) same
+    (step-once n says.0 frame heard t s frames olds news c d says.1
+      (subst (λ (h : HostState). IsSynchronized h t frames olds) (sender-is n frame says) step) e base at
+      (subst (λ (q : Request). AtMostOnce base q t) (sym same) once))
+
+pub sender-reply : (n : ℕ) (frame a : List ℕ) (reply : Reply) (s : EndState) (frames news : List (List ℕ)) → n < 2 ^ 64
+    → IsKeptFrame true n frame → IsSynchronized (sender n frame) s frames news → IsReadReply s.kept → Among a news
+    → answer_of a ≡ Some (record { number = n; reply = reply }) → (s.last ≡ n) × (s.kept ≡ reply)
+sender-reply n frame a reply s frames news fits says step reads among read =
+    step-reply n says.0 a reply s frames news fits
+    (subst (λ (h : HostState). IsSynchronized h s frames news) (sender-is n frame says) step) reads among read
+
+pub sender-down : (n : ℕ) (frame : List ℕ) (heard : Option (List ℕ)) (t s : EndState) (frames olds news : List (List ℕ)) (c d : ℕ)
+    → n < 2 ^ 64 → IsKeptFrame true n frame → IsSynchronized (sender n frame) t frames olds
+    → Exchanged frame heard t s frames olds news c d
+    → ((a : List ℕ) → heard ≡ Some a → (p : AnswerFrame) → answer_of a ≡ Some p → p.number ≡ n → ⊥) → c < d
+sender-down n frame heard t s frames olds news c d fits says step e unheard =
+    step-down n says.0 frame heard t s frames olds news c d fits says.1
+    (subst (λ (h : HostState). IsSynchronized h t frames olds) (sender-is n frame says) step) e unheard
+
+-- what was heard is this one
+pub heard-this : (heard : Heard) (got : List ℕ) → heard ≡ Answer → answer_heard heard got ≡ Some got
+heard-this heard got e = ap (λ (h : Heard). answer_heard h got) e
+
+pub unheard-this : (heard : Heard) (got : List ℕ) (n : ℕ) → heard ≡ Answer → ((p : AnswerFrame) → answer_of got ≡ Some p → p.number ≡ n → ⊥)
+    → (a : List ℕ) → answer_heard heard got ≡ Some a → (p : AnswerFrame) → answer_of a ≡ Some p → p.number ≡ n → ⊥
+unheard-this heard got n e other a h p read = other p (ap answer_of (some-inj got a (sym (heard-this heard got e) ∙ h)) ∙ read)

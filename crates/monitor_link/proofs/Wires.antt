@@ -7,7 +7,7 @@ use Rattle.monitor_link.specs.declared.link.Fate.TheVariants.{Pass, RequestLost,
 use Rattle.monitor_link.specs.declared.link.TheConstants.{KEPT_FRAMES}
 use Rattle.monitor_link.specs.Target.{EndState, delivered, given, all_delivered, all_given}
 use Rattle.monitor_link.specs.Exchange.{Among, frames_with, Exchanged}
-use Rattle.monitor_link.specs.Carried.{answers_with, answers_after, deliveries, answer_by, Carried, faults_of}
+use Rattle.monitor_link.specs.Carried.{WireState, answers_with, answers_after, deliveries, answer_by, Carried, faults_of, fate_of, after_fate}
 use Rattle.monitor_link.proofs.Steps.{among-take}
 
 among-with : (a : List ℕ) (o : Option (List ℕ)) (olds : List (List ℕ)) → Among a (answers_with o olds) → Among a olds ⊎ Among a (option_to_list o)
@@ -96,3 +96,14 @@ wire-exchanged fate frame heard t s frames olds news c d k e reads =
       later = omega (arith, e);
       clean = clean-by fate before frame heard t c d e k.heard_one;
     }
+
+-- the same once a frame's fate is chosen and the frame is kept
+pub wire-carried : (w k : WireState) (fate : Fate) (frame : List ℕ) (heard : Option (List ℕ)) (s : EndState) (news : List (List ℕ)) (d : ℕ)
+    → k ≡ record (after_fate w frame) { frames = frames_with frame w.frames } → fate ≡ fate_of w frame
+    → Carried fate (slice_get k.frames 1) frame heard k.target s k.answers news → d ≡ k.faults → IsReadReply s.kept
+    → Exchanged frame heard w.target s w.frames w.answers news w.faults d
+wire-carried w k fate frame heard s news d kept chosen carried count reads =
+    wire-exchanged fate frame heard w.target s w.frames w.answers news w.faults d
+    (subst (λ (x : WireState). Carried fate (slice_get x.frames 1) frame heard x.target s x.answers news) kept carried)
+    (count ∙ ap (λ (x : WireState). x.faults) kept ∙ ap (λ (f : Fate). w.faults + faults_of f) (sym chosen))
+    reads

@@ -75,7 +75,7 @@ impl HostEnd {
         ensures later { L.faults link.old ≤ L.faults link.new }
         ensures down { OnErr result (L.faults link.old + 8 ≤ L.faults link.new) }
         ensures reply { OnErr result (reply.new ≡ reply.old) }
-        ensures fates { L.fates link.new ≡ L.fates link.old }
+        ensures scheduled { L.scheduled link.new ≡ L.scheduled link.old }
     {
         self.begin(request);
         self.again(link, reply)
@@ -94,7 +94,7 @@ impl HostEnd {
         ensures later { L.faults link.old ≤ L.faults link.new }
         ensures down { OnErr result (L.faults link.old + 8 ≤ L.faults link.new) }
         ensures reply { OnErr result (reply.new ≡ reply.old) }
-        ensures fates { L.fates link.new ≡ L.fates link.old }
+        ensures scheduled { L.scheduled link.new ≡ L.scheduled link.old }
     {
         let result = exchange_often(link, self.number, self.frame.as_slice(), reply);
         self.waiting = result.is_err();
@@ -130,7 +130,7 @@ fn exchange_often<L: Link>(link: &mut L, number: u64, frame: &[u8], reply: &mut 
     ensures later { L.faults link.old ≤ L.faults link.new }
     ensures down { OnErr result (L.faults link.old + 8 ≤ L.faults link.new) }
     ensures reply_kept { OnErr result (reply.new ≡ reply.old) }
-    ensures fates { L.fates link.new ≡ L.fates link.old }
+    ensures scheduled { L.scheduled link.new ≡ L.scheduled link.old }
 {
     let mut got = FrameBuf::new();
     for _tried in 0..TRIES {
@@ -154,7 +154,7 @@ fn exchange_once<L: Link>(link: &mut L, number: u64, frame: &[u8], got: &mut Fra
     ensures later { L.faults link.old ≤ L.faults link.new }
     ensures down { result ≡ false → L.faults link.old < L.faults link.new }
     ensures reply_kept { result ≡ false → reply.new ≡ reply.old }
-    ensures fates { L.fates link.new ≡ L.fates link.old }
+    ensures scheduled { L.scheduled link.new ≡ L.scheduled link.old }
 {
     match link.exchange(frame, got) {
         Heard::Answer => take_reply(number, got.as_slice(), reply),

@@ -49,7 +49,7 @@ pub trait Link {
     ghost answers: { Self → List (List ℕ) };
 
     /// The fates that were last scheduled, or none.
-    ghost fates: { Self → List Fate };
+    ghost scheduled: { Self → List Fate };
 
     /// How often the link has failed: a count that never falls.
     ghost faults: { Self → ℕ };
@@ -59,15 +59,15 @@ pub trait Link {
         requires { length frame.now ≤ MAX_FRAME_BYTES }
         ensures frames { frames self.new ≡ frames_with frame.now (frames self.old) }
         ensures few { length (answers self.new) ≤ KEPT_FRAMES }
-        ensures fates { fates self.new ≡ fates self.old }
+        ensures scheduled { scheduled self.new ≡ scheduled self.old }
         ensures exchanged { Exchanged frame.now (answer_heard result got.new) (target self.old) (target self.new)
             (frames self.old) (answers self.old) (answers self.new) (faults self.old) (faults self.new) };
 
     /// Tells a fresh link the fates of its exchanges, in place of those that it was told before.
     fn schedule(&mut self, alloc: Global, fates: &[Fate]) -> Result<(), NoMemory>
         requires { IsFresh (target self.old) (frames self.old) (answers self.old) }
-        ensures told { OnOk result (fates self.new ≡ fates.now) }
-        ensures kept { OnErr result (fates self.new ≡ fates self.old) }
+        ensures told { OnOk result (scheduled self.new ≡ fates.now) }
+        ensures kept { OnErr result (scheduled self.new ≡ scheduled self.old) }
         ensures fresh { IsFresh (target self.new) (frames self.new) (answers self.new) }
         ensures faults { faults self.new ≡ faults self.old };
 

@@ -220,7 +220,7 @@ impl Link for Wire {
 
     ghost answers = { λ w. w.answers };
 
-    ghost fates = { λ w. w.fates };
+    ghost scheduled = { λ w. w.fates };
 
     ghost faults = { λ w. w.faults };
 
