@@ -14,6 +14,7 @@ use Rattle.target_monitor.specs.Served.{HasForm}
 use Rattle.link_frames.specs.declared.frame_buf.TheConstants.{MAX_FRAME_BYTES}
 use Rattle.link_frames.specs.declared.frames.TheConstants.{REQUEST_BYTE, ANSWER_BYTE, HEAD_BYTES, POKE_KIND}
 use Rattle.link_frames.specs.Frames.{head, frame, word_bytes, bit, request_kind, request_body, reply_kind, reply_body, end_number, error_code, request_frame, answer_frame, number_in, length_in, is_whole, words_in, some_if, is_within, poke_in, peek_in, gate_in, go_in, feed_in, request_in, end_in, went_in, reply_in, request_of, answer_of, IsNumber, IsReadRequest, IsReadReply}
+use Rattle.link_frames.specs.Laws.{if-true, number_in-frame, whole-frame}
 use Rattle.link_frames.specs.Fits.{FitWords, FitsRequest, FitsEnd, FitsReply}
 
 both-hold : (a b : Bool) → a ≡ true → b ≡ true → (a && b) ≡ true
@@ -26,10 +27,6 @@ some_if-true false x h = cc
 
 some_if-is : {X : Type 0} (b : Bool) (x y : X) → b ≡ true → x ≡ y → some_if b x ≡ Some y
 some_if-is b x y h e = some_if-true b x h ∙ ap Some e
-
-if-true : {X : Type 0} (b : Bool) (x y : X) → b ≡ true → (if b then x else y) ≡ x
-if-true true x y h = refl
-if-true false x y h = cc
 
 -- a word in its two bytes
 word-read : (w : ℕ) (rest : List ℕ) → w < 2 ^ 16 → little_number 2 (little_bytes 2 w ++ rest) ≡ w
@@ -44,26 +41,6 @@ words-read [] fit = refl
 words-read (w ∷ ws) fit =
     ap (λ (x : ℕ). x ∷ words_in (word_bytes ws)) (word-read w [] (fit 0))
     ∙ ap (λ (xs : List ℕ). w ∷ xs) (words-read ws (λ k. fit (suc k)))
-
--- the head of a frame says its number
-number-frame : (first kind n : ℕ) (body : List ℕ) → n < 2 ^ 64 → number_in (frame first kind n body) ≡ n
-number-frame first kind n body h = little_number-reads_back 8 n (little_bytes 2 (length body) ++ body) h
-
-length-frame : (first kind n : ℕ) (body : List ℕ) → length body < 2 ^ 16 → length_in (frame first kind n body) ≡ length body
-length-frame first kind n body h = little_number-reads_back 2 (length body) body h
-
--- a frame is whole
-whole-frame : (first kind n : ℕ) (body : List ℕ) → IsNumber n → length body ≤ 1024 → is_whole first (frame first kind n body) ≡ true
-whole-frame first kind n body number few =
-    let has_head : nat_le HEAD_BYTES (length (frame first kind n body)) ≡ true = le-leb HEAD_BYTES (length (frame first kind n body)) (omega arith) in
-    let is_short : nat_le (length (frame first kind n body)) MAX_FRAME_BYTES ≡ true = le-leb (length (frame first kind n body)) MAX_FRAME_BYTES (omega (arith, few)) in
-    let begins : nat_eq first first ≡ true = eq-eqb first first refl in
-    let from_one : nat_lt 0 (number_in (frame first kind n body)) ≡ true =
-    ap (λ (m : ℕ). nat_lt 0 m) (number-frame first kind n body number.1) ∙ lt-ltb 0 n number.0 in
-    let fits : nat_eq (length_in (frame first kind n body)) (length (frame first kind n body) - HEAD_BYTES) ≡ true =
-    eq-eqb (length_in (frame first kind n body)) (length (frame first kind n body) - HEAD_BYTES)
-    (length-frame first kind n body (omega (arith, few)) ∙ omega arith) in
-    rw (has_head, is_short, begins, from_one, fits) refl
 
 poke-read : (place : ℕ) (ws : List ℕ) → 1 ≤ length ws → length ws ≤ MAX_WORDS → place < 2 ^ 16 → FitWords ws
     → poke_in (word_bytes (place ∷ ws)) ≡ Some (Poke place ws)
@@ -136,7 +113,7 @@ unfolding IsReadRequest request_of request_frame
 request-read r form fits n number =
     if-true _ _ _ (whole-frame REQUEST_BYTE (request_kind r) n (request_body r) number (request_body-few r form))
     ∙ ap (λ (m : ℕ). option_map (λ (x : Request). record { number = m; request = x }) (request_in (request_kind r) (request_body r)))
-    (number-frame REQUEST_BYTE (request_kind r) n (request_body r) number.1)
+    (number_in-frame REQUEST_BYTE (request_kind r) n (request_body r) number.1)
     ∙ ap (λ (o : Option Request). option_map (λ (x : Request). record { number = n; request = x }) o) (request_in-body r form fits)
 
 end-read : (end : GoEnd) → end_in (end_number end) (error_code end) ≡ Some end
@@ -197,7 +174,7 @@ unfolding IsReadReply answer_of answer_frame
 reply-read r fits n number =
     if-true _ _ _ (whole-frame ANSWER_BYTE (reply_kind r) n (reply_body r) number (reply_body-few r fits))
     ∙ ap (λ (m : ℕ). option_map (λ (x : Reply). record { number = m; reply = x }) (reply_in (reply_kind r) (reply_body r)))
-    (number-frame ANSWER_BYTE (reply_kind r) n (reply_body r) number.1)
+    (number_in-frame ANSWER_BYTE (reply_kind r) n (reply_body r) number.1)
     ∙ ap (λ (o : Option Reply). option_map (λ (x : Reply). record { number = n; reply = x }) o) (reply_in-body r fits)
 
 pub reply-read-as : (r q : Reply) → r ≡ q → FitsReply q → IsReadReply r

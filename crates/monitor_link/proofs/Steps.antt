@@ -134,11 +134,11 @@ agrees-given t a (f ∷ fs) h = elim (among-append a (option_to_list (given t f)
 abbrev Counts : TargetState → TargetState → Type 0
 Counts t u = u.resets + u.goes ≤ t.resets + t.goes + 1
 
-counts-run : (t : TargetState) (x : GoResult) → Counts t (after_run t x).0
-counts-run t (s, k, went) = omega arith
+counts-same : (t : TargetState) → Counts t t
+counts-same t = omega arith
 
 counts-go : (status : ProgramStatus) (gates : ℕ) (t : TargetState) → Counts t (after_go status gates t).0
-counts-go Unfinished gates t = counts-run t _
+counts-go Unfinished gates t = omega arith
 counts-go Ended gates t = omega arith
 counts-go (Failed number) gates t = omega arith
 
@@ -148,13 +148,13 @@ counts-if t false x y h k = k
 
 counts-served : (r : Request) (t : TargetState) → Counts t (served r t).0
 counts-served request.Reset t = omega arith
-counts-served (request.Poke place words) t = counts-if t _ _ _ (omega arith) (omega arith)
-counts-served (request.Peek place count) t = counts-if t _ _ _ (omega arith) (omega arith)
+counts-served (request.Poke place words) t = counts-if t _ _ _ (counts-same t) (counts-same t)
+counts-served (request.Peek place count) t = counts-if t _ _ _ (counts-same t) (counts-same t)
 counts-served request.Registers t = omega arith
-counts-served (request.Gate place breaks) t = counts-if t _ _ _ (omega arith) (omega arith)
+counts-served (request.Gate place breaks) t = counts-if t _ _ _ (counts-same t) (counts-same t)
 counts-served (request.Go gates) t = counts-go t.status gates t
 counts-served request.Drain t = omega arith
-counts-served (request.Feed total piece) t = counts-if t _ _ _ (omega arith) (omega arith)
+counts-served (request.Feed total piece) t = counts-if t _ _ _ (counts-same t) (counts-same t)
 
 counts-after : (t : TargetState) (r : Request) → Counts t (target_after t r)
 unfolding target_after
