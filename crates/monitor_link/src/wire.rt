@@ -5,7 +5,7 @@ ghost use Rattle.link_frames.specs.declared.frame_buf.TheConstants.{MAX_FRAME_BY
 ghost use Rattle.link_frames.specs.Frames.{IsReadReply};
 ghost use Rattle.monitor_link.specs.declared.link.TheConstants.{KEPT_FRAMES};
 ghost use Rattle.monitor_link.specs.Target.{delivered, given, all_delivered};
-ghost use Rattle.monitor_link.specs.Exchange.{answer_heard, frames_with};
+ghost use Rattle.monitor_link.specs.Exchange.{answer_heard, frames_with, Exchanged};
 ghost use Rattle.monitor_link.specs.Carried.{fresh_wire, answers_with, answers_after, stale_answer, Carried, listed_fate, is_lost, chosen_fate, fate_of, faults_of, after_fate};
 
 use crate::link::{Fate, Heard, KEPT_FRAMES, Link};
@@ -224,7 +224,18 @@ impl Link for Wire {
 
     ghost faults = { λ w. w.faults };
 
-    fn exchange(&mut self, frame: &[u8], got: &mut FrameBuf) -> Heard {
+    fn exchange(&mut self, frame: &[u8], got: &mut FrameBuf) -> Heard
+        ensures frames { self.new.frames ≡ frames_with frame.now self.old.frames }
+        ensures few { length self.new.answers ≤ KEPT_FRAMES }
+        ensures scheduled { self.new.fates ≡ self.old.fates }
+        ensures exchanged { Exchanged frame.now (answer_heard result got.new) self.old.target self.new.target
+            self.old.frames self.old.answers self.new.answers self.old.faults self.new.faults }
+        // what becomes of the frame by the fate of this exchange
+        ensures carried { Carried (fate_of self.old frame.now) (slice_get self.old.frames 0) frame.now
+            (answer_heard result got.new) self.old.target self.new.target self.old.answers self.new.answers }
+        ensures wire { self.new ≡ record (after_fate self.old frame.now) {
+            target = self.new.target; frames = self.new.frames; answers = self.new.answers } }
+    {
         let fate = self.next_fate(frame);
         self.keep_frame(frame);
         let heard = self.carry(fate, frame, got);
