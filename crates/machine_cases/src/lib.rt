@@ -5,6 +5,8 @@
 #[cfg(test)]
 mod blocks;
 #[cfg(test)]
+mod monitor;
+#[cfg(test)]
 mod steps;
 #[cfg(test)]
 mod target;

@@ -7,7 +7,7 @@ ghost use Rattle.target_monitor.specs.Served.{HasForm, fresh_target, status_afte
 
 use crate::gates::{GoEnd, go};
 use crate::requests::{Piece, Reply, Request, Words};
-use crate::transfer::{drained, is_gate, register_words, words_at, write_words};
+use crate::transfer::{drain_into, is_gate, read_registers, read_words, write_words};
 use console_service::{
     BPT, CODE_BYTE, CONSOLE_ROOM_BYTES, Console, GLOBALS_BYTE, MEMORY_END_BYTE, NOP,
 };
@@ -114,7 +114,10 @@ impl Target {
     {
         let end = place as u32 + 2 * count as u32;
         if place % 2 == 0 && end <= MEMORY_END_BYTE as u32 {
-            *reply = Reply::Words(words_at(&self.machine, place, count));
+            *reply = Reply::Words(Words::new());
+            if let Reply::Words(words) = reply {
+                read_words(&self.machine, place, count, words);
+            }
         } else {
             *reply = Reply::Bad;
         }
@@ -123,7 +126,10 @@ impl Target {
     fn registers(&self, reply: &mut Reply)
         ensures { (self.now, reply.new) ≡ served request.Registers self.now }
     {
-        *reply = Reply::Words(register_words(&self.machine));
+        *reply = Reply::Words(Words::new());
+        if let Reply::Words(words) = reply {
+            read_registers(&self.machine, words);
+        }
     }
 
     fn set_gate(&mut self, place: u16, breaks: bool, reply: &mut Reply)
@@ -161,7 +167,10 @@ impl Target {
     fn drain(&mut self, reply: &mut Reply)
         ensures { (self.new, reply.new) ≡ served request.Drain self.old }
     {
-        *reply = Reply::Bytes(drained(&mut self.console));
+        *reply = Reply::Bytes(Piece::new());
+        if let Reply::Bytes(piece) = reply {
+            drain_into(&mut self.console, piece);
+        }
     }
 
     fn feed(&mut self, total: u16, piece: &Piece, reply: &mut Reply)

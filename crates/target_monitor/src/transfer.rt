@@ -1,5 +1,5 @@
 //! Words and bytes on their way between requests and the machine.
-ghost use Rattle.std.specs.Prelude.{◌≡◌, ◌+◌, ◌*◌, ◌%◌, ◌≤◌, Some, take, drop, length};
+ghost use Rattle.std.specs.Prelude.{◌≡◌, ◌+◌, ◌*◌, ◌%◌, ◌≤◌, Some, [], take, drop, length};
 ghost use Rattle.console_service.specs.declared.memory_map.TheConstants.{GLOBALS_BYTE, MEMORY_END_BYTE};
 ghost use Rattle.console_service.specs.Run.{is_gate_word};
 ghost use Rattle.target_monitor.specs.declared.requests.TheConstants.{MAX_WORDS, MAX_PIECE_BYTES};
@@ -23,40 +23,36 @@ pub(crate) fn write_words(machine: &mut Machine, first: u16, words: &[u16])
     }
 }
 
-// So many words from an even place on.
-pub(crate) fn words_at(machine: &Machine, place: u16, count: u16) -> Words
+// Reads so many words from an even place on, into no words.
+pub(crate) fn read_words(machine: &Machine, place: u16, count: u16, words: &mut Words)
     requires few { count ≤ MAX_WORDS }
     requires even { place % 2 ≡ 0 }
     requires inside { place + 2 * count ≤ MEMORY_END_BYTE }
-    ensures { result ≡ words_at machine.now place count }
+    requires empty { words.old ≡ [] }
+    ensures { words.new ≡ words_at machine.now place count }
 {
-    let mut words = Words::new();
     for read in 0..count {
         words.push(machine.peek(place + 2 * read));
     }
-    words
 }
 
-// The registers and the status word.
-pub(crate) fn register_words(machine: &Machine) -> Words
-    ensures { result ≡ register_words machine.now }
+// Reads the registers and the status word, into no words.
+pub(crate) fn read_registers(machine: &Machine, words: &mut Words)
+    requires { words.old ≡ [] }
+    ensures { words.new ≡ register_words machine.now }
 {
-    let mut words = Words::new();
     for number in 0..REGISTERS {
         words.push(machine.register(number as u8));
     }
     words.push(machine.status());
-    words
 }
 
-// The first bytes of the output, which the console then no longer holds.
-pub(crate) fn drained(console: &mut Console) -> Piece
-    ensures bytes { result ≡ take MAX_PIECE_BYTES console.old.output }
+// Takes the first bytes out of the output, into a piece.
+pub(crate) fn drain_into(console: &mut Console, piece: &mut Piece)
+    ensures bytes { piece.new ≡ take MAX_PIECE_BYTES console.old.output }
     ensures rest { console.new ≡ record console.old { output = drop MAX_PIECE_BYTES console.old.output } }
 {
-    let mut piece = Piece::new();
     piece.count = console.drain(&mut piece.room) as u16;
-    piece
 }
 
 // Whether this is the word of a gate.

@@ -1,6 +1,6 @@
 use Rattle.std.proofs.Common.{◌≡◌, min, length, take, drop, ap, ◌∙◌, arith}
 use Rattle.std.proofs.lemmas.List.{take_min, drop_min, take_at, length-take}
-use Rattle.target_monitor.proofs.transfer.drained.Goals as goal
+use Rattle.target_monitor.proofs.transfer.drain_into.Goals as goal
 
 pub returns-clause-bytes : goal.returns-clause-bytes
 returns-clause-bytes c =

@@ -1,5 +1,5 @@
 use Rattle.std.proofs.Common.{◌≡◌, take}
-use Rattle.target_monitor.proofs.transfer.register_words.Given as goal
+use Rattle.target_monitor.proofs.transfer.read_registers.Given as goal
 
 abbrev pub invariant-loop-number : goal.invariant-loop-number
 invariant-loop-number l = l.words ≡ take l.number l.machine.registers
