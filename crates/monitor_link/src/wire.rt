@@ -225,6 +225,7 @@ impl Link for Wire {
     ghost faults = { λ w. w.faults };
 
     fn exchange(&mut self, frame: &[u8], got: &mut FrameBuf) -> Heard
+        requires { length frame.now ≤ MAX_FRAME_BYTES }
         ensures frames { self.new.frames ≡ frames_with frame.now self.old.frames }
         ensures few { length self.new.answers ≤ KEPT_FRAMES }
         ensures scheduled { self.new.fates ≡ self.old.fates }
