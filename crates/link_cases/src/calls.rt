@@ -20,7 +20,13 @@ fn waits_and_goes_on(alloc: Global) -> Result<[bool; 5], Fail> {
         return Ok([is_reset, is_down, waits, false, false]);
     }
     let is_asked = host.again(&mut wire, &mut reply).is_ok();
-    Ok([is_reset, is_down, waits, is_asked, matches!(&reply, Reply::Went(_, _))])
+    Ok([
+        is_reset,
+        is_down,
+        waits,
+        is_asked,
+        matches!(&reply, Reply::Went(_, _)),
+    ])
 }
 
 #[test]

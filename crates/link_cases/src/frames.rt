@@ -15,7 +15,8 @@ fn a_request_as_bytes(rt: HostRuntime) -> Result<(), Fail> {
         Some(read) => read.number == 3 && matches!(&read.request, Request::Go(6)),
         None => false,
     };
-    let is_right = bytes.as_slice() == b"\x44\x06\x03\0\0\0\0\0\0\0\x02\0\x06\0".as_slice() && is_read;
+    let is_right = bytes.as_slice() == b"\x44\x06\x03\0\0\0\0\0\0\0\x02\0\x06\0".as_slice()
+        && is_read;
     assert!(rt; is_right);
     Ok(())
 }
@@ -28,7 +29,9 @@ fn an_answer_as_bytes(rt: HostRuntime) -> Result<(), Fail> {
         Some(read) => read.number == 2 && matches!(&read.reply, Reply::Went(GoEnd::Error(3), 2)),
         None => false,
     };
-    let is_right = bytes.as_slice() == b"\x52\x02\x02\0\0\0\0\0\0\0\x05\0\x03\x03\0\x02\0".as_slice() && is_read;
+    let is_right = bytes.as_slice()
+        == b"\x52\x02\x02\0\0\0\0\0\0\0\x05\0\x03\x03\0\x02\0".as_slice()
+        && is_read;
     assert!(rt; is_right);
     Ok(())
 }
@@ -137,7 +140,11 @@ fn numbers(rt: HostRuntime) -> Result<(), Fail> {
     let is_same = is_answered(&mut end, b"\x44\x01\x01\0\0\0\0\0\0\0\0\0", went);
     let is_malformed = is_silent(&mut end, b"\x44\x06\x01\0\0\0\0\0\0\0\x02\0\0\0");
     let is_past = is_silent(&mut end, b"\x44\x01\x03\0\0\0\0\0\0\0\0\0");
-    let is_next = is_answered(&mut end, b"\x44\x01\x02\0\0\0\0\0\0\0\0\0", b"\x52\0\x02\0\0\0\0\0\0\0\0\0");
+    let is_next = is_answered(
+        &mut end,
+        b"\x44\x01\x02\0\0\0\0\0\0\0\0\0",
+        b"\x52\0\x02\0\0\0\0\0\0\0\0\0",
+    );
     let is_old = is_silent(&mut end, GO);
     let is_right = is_first && is_same && is_malformed && is_past && is_next && is_old;
     assert!(rt; is_right);

@@ -1,6 +1,6 @@
 -- What is written is read back.
-use Rattle.std.proofs.Common.{◌≡◌, ◌<◌, ◌≤◌, ℕ, zero, suc, ◌+◌, ◌-◌, ◌*◌, ◌%◌, ◌^◌, Bool, true, false, ◌&&◌, nat_eq, nat_lt, nat_le, if◌then◌else◌, List, [], ◌∷◌, ◌++◌, length, take, slice_index, Option, Some, option_map, refl, sym, ap, subst, ◌∙◌, arith}
-use Rattle.std.proofs.lemmas.Bool.{lt-ltb, le-leb, eq-eqb}
+use Rattle.std.proofs.Common.{◌≡◌, ◌<◌, ◌≤◌, ℕ, zero, suc, ◌+◌, ◌*◌, ◌%◌, ◌^◌, Bool, true, false, ◌&&◌, nat_eq, nat_le, List, [], ◌∷◌, ◌++◌, length, take, slice_index, Option, Some, option_map, refl, sym, ap, subst, ◌∙◌, arith}
+use Rattle.std.proofs.lemmas.Bool.{le-leb, eq-eqb}
 use Rattle.byteorder.specs.Endian.{little_bytes, little_number}
 use Rattle.byteorder.specs.Numbers.{little_number-reads_back}
 use Rattle.target_monitor.specs.declared.gates.GoEnd.{GoEnd}
@@ -11,9 +11,8 @@ use Rattle.target_monitor.specs.declared.requests.Request.TheVariants.{Reset, Po
 use Rattle.target_monitor.specs.declared.requests.Reply.{Reply}
 use Rattle.target_monitor.specs.declared.requests.Reply.TheVariants.{Done, Words, Went, Bytes, Bad}
 use Rattle.target_monitor.specs.Served.{HasForm}
-use Rattle.link_frames.specs.declared.frame_buf.TheConstants.{MAX_FRAME_BYTES}
-use Rattle.link_frames.specs.declared.frames.TheConstants.{REQUEST_BYTE, ANSWER_BYTE, HEAD_BYTES, POKE_KIND}
-use Rattle.link_frames.specs.Frames.{head, frame, word_bytes, bit, request_kind, request_body, reply_kind, reply_body, end_number, error_code, request_frame, answer_frame, number_in, length_in, is_whole, words_in, some_if, is_within, poke_in, peek_in, gate_in, go_in, feed_in, request_in, end_in, went_in, reply_in, request_of, answer_of, IsNumber, IsReadRequest, IsReadReply}
+use Rattle.link_frames.specs.declared.frames.TheConstants.{REQUEST_BYTE, ANSWER_BYTE, POKE_KIND}
+use Rattle.link_frames.specs.Frames.{head, frame, word_bytes, bit, request_kind, request_body, reply_kind, reply_body, end_number, error_code, request_frame, answer_frame, words_in, some_if, is_within, poke_in, peek_in, gate_in, go_in, feed_in, request_in, end_in, went_in, reply_in, request_of, answer_of, IsReadRequest, IsReadReply}
 use Rattle.link_frames.specs.Laws.{if-true, number_in-frame, whole-frame}
 use Rattle.link_frames.specs.Fits.{FitWords, FitsRequest, FitsEnd, FitsReply}
 

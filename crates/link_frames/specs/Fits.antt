@@ -12,6 +12,10 @@ use Rattle.target_monitor.specs.declared.requests.Reply.TheVariants.{Words, Went
 abbrev pub FitWords : List ℕ → Type 0
 FitWords ws = (k : ℕ) → slice_index ws k < 2 ^ 16
 
+-- each is a byte
+abbrev pub FitBytes : List ℕ → Type 0
+FitBytes bs = (k : ℕ) → slice_index bs k < 256
+
 abbrev pub FitsRequest : Request → Type 0
 FitsRequest (Poke place words) = (place < 2 ^ 16) × FitWords words
 FitsRequest (Peek place count) = (place < 2 ^ 16) × (count < 2 ^ 16)

@@ -4,7 +4,7 @@ ghost use Rattle.byteorder.specs.Endian.{little_number};
 ghost use Rattle.target_monitor.specs.declared.requests.TheConstants.{MAX_WORDS, MAX_PIECE_BYTES};
 ghost use Rattle.target_monitor.specs.Served.{HasForm};
 ghost use Rattle.link_frames.specs.declared.frames.TheConstants.{HEAD_BYTES};
-ghost use Rattle.link_frames.specs.Frames.{number_in, length_in, is_whole, words_in, poke_in, peek_in, gate_in, go_in, feed_in, if_empty, request_in, plain_end, end_in, words_reply_in, went_in, bytes_in, reply_in, request_of, answer_of};
+ghost use Rattle.link_frames.specs.Frames.{number_in, length_in, is_whole, words_in, poke_in, peek_in, gate_in, go_in, feed_in, if_empty, request_in, plain_end, end_in, words_reply_in, went_in, bytes_in, reply_in, request_of, answer_of, request_frame, answer_frame};
 
 use crate::frame_buf::MAX_FRAME_BYTES;
 use crate::frames::{
@@ -21,6 +21,7 @@ use target_monitor::{GoEnd, MAX_GATES, MAX_PIECE_BYTES, MAX_WORDS, Piece, Reply,
 pub fn read_request(frame: &[u8]) -> Option<RequestFrame>
     ensures request { result ≡ request_of frame.now }
     ensures form { IfSome result (λ f. HasForm f.request) }
+    ensures written { IfSome result (λ f. frame.now ≡ request_frame f) }
 {
     if !is_whole(REQUEST_BYTE, frame) {
         return None;
@@ -35,7 +36,8 @@ pub fn read_request(frame: &[u8]) -> Option<RequestFrame>
 /// The answer that bytes say: `None` exactly where they are no whole frame of an answer.
 #[tactic(auto, unfolding(crate::specs::Frames::answer_of))]
 pub fn read_answer(frame: &[u8]) -> Option<AnswerFrame>
-    ensures { result ≡ answer_of frame.now }
+    ensures answer { result ≡ answer_of frame.now }
+    ensures written { IfSome result (λ f. frame.now ≡ answer_frame f) }
 {
     if !is_whole(ANSWER_BYTE, frame) {
         return None;
