@@ -243,3 +243,16 @@ IsReadReply reply =
 go_example : request_frame (record { number = 3; request = Go 6 }) ≡ 0x44 ∷ 6 ∷ 3 ∷ 0 ∷ 0 ∷ 0 ∷ 0 ∷ 0 ∷ 0 ∷ 0 ∷ 2 ∷ 0 ∷ 6 ∷ 0 ∷ []
 unfolding request_frame
 go_example = refl
+
+-- which says that again; over 4,097 gates, or with a body of one byte more than the head says, it says nothing
+go_read : request_of (0x44 ∷ 6 ∷ 3 ∷ 0 ∷ 0 ∷ 0 ∷ 0 ∷ 0 ∷ 0 ∷ 0 ∷ 2 ∷ 0 ∷ 6 ∷ 0 ∷ []) ≡ Some (record { number = 3; request = Go 6 })
+unfolding request_of
+go_read = refl
+
+go_too_far : request_of (0x44 ∷ 6 ∷ 3 ∷ 0 ∷ 0 ∷ 0 ∷ 0 ∷ 0 ∷ 0 ∷ 0 ∷ 2 ∷ 0 ∷ 1 ∷ 16 ∷ []) ≡ None
+unfolding request_of
+go_too_far = refl
+
+go_too_long : request_of (0x44 ∷ 6 ∷ 3 ∷ 0 ∷ 0 ∷ 0 ∷ 0 ∷ 0 ∷ 0 ∷ 0 ∷ 2 ∷ 0 ∷ 6 ∷ 0 ∷ 0 ∷ []) ≡ None
+unfolding request_of
+go_too_long = refl

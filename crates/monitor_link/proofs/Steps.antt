@@ -1,5 +1,5 @@
 -- What deliveries do to a target's end that is in step with a host whose request waits.
-use Rattle.std.proofs.Common.{◌≡◌, ◌<◌, ◌≤◌, ◌⊎◌, ◌&&◌, ℕ, ◌+◌, ◌-◌, ◌^◌, min, Bool, true, false, nat_eq, nat_lt, nat_le, if◌then◌else◌, List, [], ◌∷◌, ◌++◌, Option, None, Some, IfSome, IsSome, option_map, length, take, refl, sym, ap, subst, ◌∙◌, arith, inl, inr, suc, zero}
+use Rattle.std.proofs.Common.{◌≡◌, ◌<◌, ◌≤◌, ◌⊎◌, ℕ, ◌+◌, ◌^◌, Bool, true, false, nat_eq, if◌then◌else◌, List, [], ◌∷◌, ◌++◌, Option, None, Some, IfSome, option_map, take, refl, sym, ap, subst, ◌∙◌, arith, inl, inr, suc, zero}
 use Rattle.std.proofs.lemmas.Bool.{eqb-true, eq-eqb}
 use Rattle.std.specs.Option.{option_to_list}
 use Rattle.target_monitor.specs.declared.requests.Request.{Request}
@@ -7,18 +7,17 @@ use Rattle.target_monitor.specs.declared.requests.Request.TheVariants as request
 use Rattle.target_monitor.specs.declared.requests.Reply.{Reply}
 use Rattle.target_monitor.specs.declared.target.ProgramStatus.{ProgramStatus}
 use Rattle.target_monitor.specs.declared.target.ProgramStatus.TheVariants.{Unfinished, Ended, Failed}
-use Rattle.target_monitor.specs.Go.{GoResult}
-use Rattle.target_monitor.specs.Served.{TargetState, served, after_run, after_go}
+use Rattle.target_monitor.specs.Served.{TargetState, served, after_go}
 use Rattle.link_frames.specs.declared.frames.RequestFrame.{RequestFrame}
 use Rattle.link_frames.specs.declared.frames.AnswerFrame.{AnswerFrame}
 use Rattle.link_frames.specs.Frames.{request_of, answer_of, answer_frame, request_frame, IsReadReply, IsReadRequest}
 use Rattle.link_frames.specs.Laws.{answer_of-number}
 use Rattle.monitor_link.specs.declared.link.TheConstants.{KEPT_FRAMES}
-use Rattle.monitor_link.specs.Target.{EndState, target_after, reply_to, executed, taken_frame, kept_answer, delivered, given, all_delivered, all_given}
+use Rattle.monitor_link.specs.Target.{EndState, target_after, executed, taken_frame, kept_answer, delivered, given, all_delivered, all_given}
 use Rattle.monitor_link.specs.declared.link.Heard.{Heard}
 use Rattle.monitor_link.specs.declared.link.Heard.TheVariants.{Answer}
 use Rattle.monitor_link.specs.Exchange.{Among, answer_heard, frames_with, Exchanged}
-use Rattle.monitor_link.specs.Host.{HostState, BelongsTo, Agrees, Reaches, IsAt, IsSynchronized, AtMostOnce, IsBase, IsKeptFrame, request_in_frame, waiting_request, sender, next_number}
+use Rattle.monitor_link.specs.Host.{HostState, BelongsTo, Agrees, Reaches, IsSynchronized, AtMostOnce, IsKeptFrame, request_in_frame, sender, next_number}
 
 if-either : {A : Type 0} (P : A → Type 0) (b : Bool) (x y : A) → (b ≡ true → P x) → (b ≡ false → P y) → P (if b then x else y)
 if-either P true x y p q = p refl
@@ -255,13 +254,13 @@ pub step-down : (n : ℕ) (r : Request) (frame : List ℕ) (heard : Option (List
 step-down n r frame heard t s frames olds news c d fits says step e unheard = elim e.clean [
   | inl rose ↦ rose
   | inr k ↦
-    let f : RequestFrame = record { number = n; request = r } in
-    let u : EndState = taken_frame t (Some f) in
-    let last : u.last ≡ n = last-taken t f step.at.1 in
-    let came : s ≡ u = e.took ∙ ap (λ (fs : List (List ℕ)). all_delivered fs t) k.0 ∙ ap (taken_frame t) says in
-    let answer : heard ≡ Option.Some (answer_frame (record { number = u.last; reply = u.kept })) =
-    k.1 ∙ ap (λ (o : Option RequestFrame). kept_answer (taken_frame t o) o) says ∙ kept-own u f last in
-    absurd (unheard (answer_frame (record { number = u.last; reply = u.kept })) answer (record { number = u.last; reply = u.kept })
+      let f : RequestFrame = record { number = n; request = r } in
+      let u : EndState = taken_frame t (Some f) in
+      let last : u.last ≡ n = last-taken t f step.at.1 in
+      let came : s ≡ u = e.took ∙ ap (λ (fs : List (List ℕ)). all_delivered fs t) k.0 ∙ ap (taken_frame t) says in
+      let answer : heard ≡ Option.Some (answer_frame (record { number = u.last; reply = u.kept })) =
+      k.1 ∙ ap (λ (o : Option RequestFrame). kept_answer (taken_frame t o) o) says ∙ kept-own u f last in
+      absurd (unheard (answer_frame (record { number = u.last; reply = u.kept })) answer (record { number = u.last; reply = u.kept })
       (kept-read u (subst (λ (x : EndState). IsReadReply x.kept) came e.reads) n last step.at.0 fits) last)
 ]
 
@@ -321,7 +320,7 @@ pub sender-step : (n : ℕ) (frame : List ℕ) (heard : Option (List ℕ)) (t s 
 sender-step n frame heard t s frames olds news c d says step e =
     subst (λ (h : HostState). IsSynchronized h s (frames_with frame frames) news) (sym (sender-is n frame says))
     (exchange-step n says.0 frame heard t s frames olds news c d says.1
-      (subst (λ (h : HostState). IsSynchronized h t frames olds) (sender-is n frame says) step) e)
+    (subst (λ (h : HostState). IsSynchronized h t frames olds) (sender-is n frame says) step) e)
 
 pub sender-once : (n : ℕ) (frame : List ℕ) (heard : Option (List ℕ)) (t s : EndState) (frames olds news : List (List ℕ)) (c d : ℕ)
     → IsKeptFrame true n frame → IsSynchronized (sender n frame) t frames olds → Exchanged frame heard t s frames olds news c d
@@ -330,8 +329,8 @@ sender-once n frame heard t s frames olds news c d says step e r base waits at o
     let same : says.0 ≡ r = some-inj says.0 r (sym (says-waiting says.0 n frame says.1) ∙ waits) in
     subst (λ (q : Request). AtMostOnce base q s) same
     (step-once n says.0 frame heard t s frames olds news c d says.1
-      (subst (λ (h : HostState). IsSynchronized h t frames olds) (sender-is n frame says) step) e base at
-      (subst (λ (q : Request). AtMostOnce base q t) (sym same) once))
+    (subst (λ (h : HostState). IsSynchronized h t frames olds) (sender-is n frame says) step) e base at
+    (subst (λ (q : Request). AtMostOnce base q t) (sym same) once))
 
 pub sender-reply : (n : ℕ) (frame a : List ℕ) (reply : Reply) (s : EndState) (frames news : List (List ℕ)) → n < 2 ^ 64
     → IsKeptFrame true n frame → IsSynchronized (sender n frame) s frames news → IsReadReply s.kept → Among a news

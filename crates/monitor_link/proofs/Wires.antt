@@ -1,11 +1,11 @@
 -- A link in memory is a link.
-use Rattle.std.proofs.Common.{◌≡◌, ◌<◌, ◌≤◌, ◌⊎◌, ℕ, ◌+◌, List, [], ◌∷◌, ◌++◌, Option, None, Some, take, slice_get, refl, sym, ap, subst, ◌∙◌, arith, inl, inr, zero, suc}
+use Rattle.std.proofs.Common.{◌≡◌, ◌<◌, ◌⊎◌, ℕ, ◌+◌, List, [], ◌∷◌, ◌++◌, Option, None, Some, take, slice_get, refl, sym, ap, subst, ◌∙◌, arith, inl, inr}
 use Rattle.std.specs.Option.{option_to_list}
 use Rattle.link_frames.specs.Frames.{IsReadReply}
 use Rattle.monitor_link.specs.declared.link.Fate.{Fate}
 use Rattle.monitor_link.specs.declared.link.Fate.TheVariants.{Pass, RequestLost, AnswerLost, Twice, Stale}
 use Rattle.monitor_link.specs.declared.link.TheConstants.{KEPT_FRAMES}
-use Rattle.monitor_link.specs.Target.{EndState, delivered, given, all_delivered, all_given}
+use Rattle.monitor_link.specs.Target.{EndState, delivered, given, all_given}
 use Rattle.monitor_link.specs.Exchange.{Among, frames_with, Exchanged}
 use Rattle.monitor_link.specs.Carried.{WireState, answers_with, answers_after, deliveries, answer_by, Carried, faults_of, fate_of, after_fate}
 use Rattle.monitor_link.proofs.Steps.{among-take}

@@ -1,5 +1,5 @@
 -- What a link in memory does with a frame, by the fate of the exchange.
-use Rattle.std.specs.Prelude.{◌≡◌, ◌<◌, ℕ, ◌+◌, ◌-◌, ◌^◌, Bool, true, false, ◌&&◌, nat_eq, nat_lt, if◌then◌else◌, List, [], ◌∷◌, ◌++◌, take, slice_get, slice_index, length, Option, Some, None, unwrap_or}
+use Rattle.std.specs.Prelude.{◌≡◌, ℕ, ◌+◌, ◌-◌, ◌^◌, Bool, ◌&&◌, nat_eq, nat_lt, if◌then◌else◌, List, [], ◌∷◌, ◌++◌, take, slice_get, slice_index, length, Option, Some, None, unwrap_or}
 use Rattle.std.specs.Option.{option_to_list}
 use Rattle.monitor_link.specs.declared.link.Fate.{Fate}
 use Rattle.monitor_link.specs.declared.link.Fate.TheVariants.{Pass, RequestLost, AnswerLost, Twice, Stale}
@@ -21,7 +21,14 @@ pub record WireState : Type 0 where
 -- a link on which nothing was asked, and every exchange passes
 abbrev pub fresh_wire : WireState
 fresh_wire = record {
-  target = fresh_end; fates = []; at = 0; frames = []; answers = []; lose_kind = 0; lose_times = 0; faults = 0;
+  target = fresh_end;
+  fates = [];
+  at = 0;
+  frames = [];
+  answers = [];
+  lose_kind = 0;
+  lose_times = 0;
+  faults = 0;
 }
 
 -- where there is no frame yet, the target is fresh and there is no answer

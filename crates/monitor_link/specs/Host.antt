@@ -2,9 +2,7 @@
 use Rattle.std.specs.Prelude.{◌≡◌, ◌<◌, ◌≤◌, ◌⊎◌, ℕ, ◌+◌, Bool, true, false, List, Option, None, Some, Result, Ok, Err, IfSome, option_map}
 use Rattle.target_monitor.specs.declared.requests.Request.{Request}
 use Rattle.target_monitor.specs.declared.requests.Reply.{Reply}
-use Rattle.target_monitor.specs.Served.{TargetState}
 use Rattle.link_frames.specs.declared.frames.RequestFrame.{RequestFrame}
-use Rattle.link_frames.specs.declared.frames.AnswerFrame.{AnswerFrame}
 use Rattle.link_frames.specs.Frames.{request_of, answer_frame}
 use Rattle.monitor_link.specs.declared.host_end.LinkDown.{LinkDown}
 use Rattle.monitor_link.specs.Target.{EndState, reply_to, executed}

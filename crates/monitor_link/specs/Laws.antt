@@ -1,5 +1,5 @@
 -- Laws of the link, for the crates above.
-use Rattle.std.proofs.Common.{◌≡◌, List, [], None, refl, arith}
+use Rattle.std.proofs.Common.{[], None, refl, arith}
 use Rattle.monitor_link.specs.Target.{fresh_end}
 use Rattle.monitor_link.specs.Host.{IsSynchronized}
 

@@ -1,12 +1,11 @@
 -- What the target's end does with bytes that come to it.
-use Rattle.std.specs.Prelude.{ℕ, ◌+◌, Bool, nat_eq, if◌then◌else◌, List, [], ◌∷◌, ◌++◌, Option, None, Some}
+use Rattle.std.specs.Prelude.{ℕ, ◌+◌, nat_eq, if◌then◌else◌, List, [], ◌∷◌, ◌++◌, Option, None, Some}
 use Rattle.std.specs.Option.{option_to_list}
 use Rattle.target_monitor.specs.declared.requests.Request.{Request}
 use Rattle.target_monitor.specs.declared.requests.Reply.{Reply}
 use Rattle.target_monitor.specs.declared.requests.Reply.TheVariants.{Done}
 use Rattle.target_monitor.specs.Served.{TargetState, fresh_target, served}
 use Rattle.link_frames.specs.declared.frames.RequestFrame.{RequestFrame}
-use Rattle.link_frames.specs.declared.frames.AnswerFrame.{AnswerFrame}
 use Rattle.link_frames.specs.Frames.{request_of, answer_frame}
 
 -- the target, the number of the last request that was executed, or 0 before the first, and the reply to it

@@ -62,7 +62,12 @@ impl HostEnd {
     /// with one number. At Ok the target executed the request exactly once since it was first asked, and `reply` is its
     /// reply to it. At LinkDown it executed it at most once, and the request waits; that comes only where the link's
     /// count of faults rose in each of eight exchanges. Takes no memory.
-    pub fn ask<L: Link>(&mut self, link: &mut L, request: &Request, reply: &mut Reply) -> Result<(), LinkDown>
+    pub fn ask<L: Link>(
+        &mut self,
+        link: &mut L,
+        request: &Request,
+        reply: &mut Reply,
+    ) -> Result<(), LinkDown>
         requires in_step { IsSynchronized self.old (L.target link.old) (L.frames link.old) (L.answers link.old) }
         requires form { HasForm request.now }
         requires same { IfSome self.old.waits (λ r. r ≡ request.now) }
@@ -118,7 +123,12 @@ impl HostEnd {
 }
 
 // Sends the frame of the request that waits up to eight times.
-fn exchange_often<L: Link>(link: &mut L, number: u64, frame: &[u8], reply: &mut Reply) -> Result<(), LinkDown>
+fn exchange_often<L: Link>(
+    link: &mut L,
+    number: u64,
+    frame: &[u8],
+    reply: &mut Reply,
+) -> Result<(), LinkDown>
     requires few { length frame.now ≤ MAX_FRAME_BYTES }
     requires says { IsKeptFrame true number frame.now }
     requires in_step { IsSynchronized (sender number frame.now) (L.target link.old) (L.frames link.old) (L.answers link.old) }
@@ -142,7 +152,13 @@ fn exchange_often<L: Link>(link: &mut L, number: u64, frame: &[u8], reply: &mut 
 }
 
 // Sends the frame of the request that waits: whether its answer came.
-fn exchange_once<L: Link>(link: &mut L, number: u64, frame: &[u8], got: &mut FrameBuf, reply: &mut Reply) -> bool
+fn exchange_once<L: Link>(
+    link: &mut L,
+    number: u64,
+    frame: &[u8],
+    got: &mut FrameBuf,
+    reply: &mut Reply,
+) -> bool
     requires few { length frame.now ≤ MAX_FRAME_BYTES }
     requires says { IsKeptFrame true number frame.now }
     requires in_step { IsSynchronized (sender number frame.now) (L.target link.old) (L.frames link.old) (L.answers link.old) }

@@ -39,8 +39,15 @@ impl Model for Wire {
     ghost Value = { WireState };
 
     ghost view = { λ w. record {
-        target = w.target; fates = w.fates.items; at = w.at; frames = w.frames.items; answers = w.answers.items;
-        lose_kind = w.lose_kind; lose_times = w.lose_times; faults = w.faults } };
+      target = w.target;
+      fates = w.fates.items;
+      at = w.at;
+      frames = w.frames.items;
+      answers = w.answers.items;
+      lose_kind = w.lose_kind;
+      lose_times = w.lose_times;
+      faults = w.faults;
+    } };
 
     ghost invariant = { λ w. (w.frames.capacity ≡ KEPT_FRAMES) × (w.answers.capacity ≡ KEPT_FRAMES)
         × (length w.answers.items ≤ KEPT_FRAMES) × IsBegun w.frames.items w.target w.answers.items };
@@ -137,8 +144,9 @@ impl Wire {
         requires { 0 < length self.old.frames }
         ensures heard { answer_heard result got.new ≡ given self.old.target frame.now }
         ensures wire { self.new ≡ record self.old {
-            target = delivered self.old.target frame.now;
-            answers = answers_with (given self.old.target frame.now) self.old.answers } }
+          target = delivered self.old.target frame.now;
+          answers = answers_with (given self.old.target frame.now) self.old.answers;
+        } }
     {
         match self.target.deliver(frame, got) {
             Heard::Answer => {
@@ -154,8 +162,9 @@ impl Wire {
         requires { 0 < length self.old.frames }
         ensures heard { answer_heard result got.new ≡ stale_answer (slice_get self.old.frames 1) self.old.target }
         ensures wire { self.new ≡ record self.old {
-            target = all_delivered (option_to_list (slice_get self.old.frames 1)) self.old.target;
-            answers = answers_after (option_to_list (slice_get self.old.frames 1)) self.old.target self.old.answers } }
+          target = all_delivered (option_to_list (slice_get self.old.frames 1)) self.old.target;
+          answers = answers_after (option_to_list (slice_get self.old.frames 1)) self.old.target self.old.answers;
+        } }
     {
         let before = match self.frames.get(1) {
             None => return Heard::Silence,
@@ -235,7 +244,10 @@ impl Link for Wire {
         ensures carried { Carried (fate_of self.old frame.now) (slice_get self.old.frames 0) frame.now
             (answer_heard result got.new) self.old.target self.new.target self.old.answers self.new.answers }
         ensures wire { self.new ≡ record (after_fate self.old frame.now) {
-            target = self.new.target; frames = self.new.frames; answers = self.new.answers } }
+          target = self.new.target;
+          frames = self.new.frames;
+          answers = self.new.answers;
+        } }
     {
         let fate = self.next_fate(frame);
         self.keep_frame(frame);

@@ -1,5 +1,4 @@
-use Rattle.std.proofs.Common.{◌≡◌, ◌<◌, ◌+◌, ◌-◌, ◌^◌, ℕ, arith, sym, subst}
-use Rattle.monitor_link.specs.Host.{HostState}
+use Rattle.std.proofs.Common.{◌+◌, arith}
 use Rattle.monitor_link.proofs.Steps.{frame-says, says-waiting}
 use Rattle.monitor_link.proofs.host_end.HostEnd.begin.Goals as goal
 
