@@ -1,4 +1,5 @@
-//! Cases of the link: the bytes of frames, bytes that are none, each call of its two ends, and each fate of an exchange.
+//! Cases of the link: the bytes of frames, bytes that are none, each call of its two ends, each fate of an exchange, and
+//! random bytes, whose answers are compared with what another model of the monitor gives.
 #![tactic(auto)]
 
 #[cfg(test)]
@@ -7,3 +8,5 @@ mod calls;
 mod fates;
 #[cfg(test)]
 mod frames;
+#[cfg(test)]
+mod random;
