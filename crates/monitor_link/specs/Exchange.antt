@@ -22,7 +22,8 @@ frames_with frame frames = take KEPT_FRAMES (frame ∷ frames)
 
 -- An exchange of a frame. The target took any frames among this one and the eight before it, in any order, each as often as
 -- it may be; what was heard is nothing or one of the last answers. Where the count of faults did not rise, the target took
--- this frame exactly once, and its answer was heard, or nothing where it gave none.
+-- this frame exactly once, and its answer was heard, or nothing where it gave none. What the target keeps is a reply that is
+-- read back from its frame: so the bytes of an answer say no other reply.
 pub record Exchanged (frame : List ℕ) (heard : Option (List ℕ)) (old new : EndState) (frames answers_old answers_new : List (List ℕ)) (before now : ℕ) : Type 0 where
   pub deliveries : List (List ℕ)
   pub sent : (f : List ℕ) → Among f deliveries → Among f (frames_with frame frames)

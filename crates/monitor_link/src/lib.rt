@@ -12,5 +12,6 @@ mod wire;
 
 pub use host_end::{HostEnd, LinkDown};
 pub use link::{Fate, Heard, Link, link_fresh};
+pub use link_frames::FrameBuf;
 pub use target_end::TargetEnd;
 pub use wire::Wire;
