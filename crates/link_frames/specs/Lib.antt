@@ -1,0 +1,3 @@
+pub mod Frames
+pub mod Fits
+pub mod Laws

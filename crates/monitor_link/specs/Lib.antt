@@ -1,0 +1,5 @@
+pub mod Target
+pub mod Exchange
+pub mod Host
+pub mod Carried
+pub mod Laws
