@@ -1,0 +1,189 @@
+-- Where control goes in a program, and the table of its blocks (ISO 7185:1990, 6.8.3: a sequence is carried out in textual
+-- order, a conditional statement by one branch, a repetitive one by its turns; 6.8.2.4: a `goto` by its label).
+use Rattle.std.specs.Prelude.{ℕ, ◌+◌, List, [], ◌∷◌, ◌++◌, Option, Some, None}
+use Rattle.dice_base.specs.declared.name.Name.{Name}
+use Rattle.core_tree.specs.declared.form.StatementOp.{StatementOp}
+use Rattle.core_tree.specs.declared.form.StatementOp.TheVariants as stmt
+use Rattle.core_tree.specs.declared.program.LinkEnd.{LinkEnd}
+use Rattle.core_tree.specs.declared.program.LinkEnd.TheVariants as link
+use Rattle.core_tree.specs.Plain.{Form, BlockForm, ProgramBlock, RoutineBlock, StatementBlock, Statement, Stmt, Statements, Last, Then, Head, Routine, Block, Routines, NoRoutine, Also}
+
+-- ---- where a statement begins
+
+-- at its own gate, but a compound and a `repeat` at that of their first statement
+abbrev pub entry_by : Option Form → StatementOp → ℕ → ℕ → ℕ
+entry_by None o n inner = inner
+entry_by (Some f) stmt.Repeat n inner = inner
+entry_by (Some f) o n inner = n
+
+abbrev pub op_in : Option Form → StatementOp
+op_in None = stmt.Empty
+op_in (Some f) = f.op
+
+-- no sequence is empty, so 0 does not come
+abbrev mutual
+  pub entry_of : Statement → ℕ
+  entry_of (Stmt n l f ss) = entry_by f (op_in f) n (first_entry ss)
+
+  pub first_entry : Statements → ℕ
+  first_entry Last = 0
+  first_entry (Then s ss) = entry_of s
+
+abbrev pub entries_of : Statements → List ℕ
+entries_of Last = []
+entries_of (Then s ss) = entry_of s ∷ entries_of ss
+
+-- ---- what a statement hands to those in it
+
+-- an A says where control goes after a statement, and a B what stands around it
+pub record ControlFlow (A B : Type 0) : Type 0 where
+  -- to the gate of this statement
+  pub gate : ℕ → A
+  -- to the step of the `for` of this name: its body begins at that statement, and after its last turn control goes on
+  pub step : ℕ → Form → ℕ → A → A
+  -- to the end of the `with` of this name, and on
+  pub end_with : ℕ → A → A
+  -- to the gate of this routine
+  pub leave : ℕ → A
+  -- to the end of the program
+  pub finish : A
+  -- nothing stands around the body of a routine
+  pub outermost : B
+  -- a `for` or a `with` of this name and form stands around
+  pub inside : ℕ → Form → B → B
+
+-- a block in the table: its name, its routine, what stands around it, where control goes after it, if it is a statement's,
+-- where the statements directly in it begin, and its form
+pub record Row (A B : Type 0) : Type 0 where
+  pub name : ℕ
+  pub routine : ℕ
+  pub around : B
+  pub next : Option A
+  pub entries : List ℕ
+  pub form : BlockForm
+
+module _ (A B : Type 0) (flow : ControlFlow A B) where
+  -- after a statement of a sequence comes the next one
+  abbrev pub next_in : Statements → A → A
+  next_in Last after = after
+  next_in (Then s ss) after = flow.gate (entry_of s)
+
+  -- the statements in this one are a sequence, or branches
+  abbrev pub in_sequence : Option Form → StatementOp → Statements → A → A
+  in_sequence None o ss after = next_in ss after
+  in_sequence (Some f) stmt.Repeat ss after = next_in ss after
+  in_sequence (Some f) o ss after = after
+
+  -- what comes after the last statement in this one, or after each branch
+  abbrev pub after_inner : Form → StatementOp → ℕ → ℕ → A → A
+  after_inner f (stmt.For loop) n body after = flow.step n f body after
+  after_inner f stmt.With n body after = flow.end_with n after
+  after_inner f stmt.While n body after = flow.gate n
+  after_inner f stmt.Repeat n body after = flow.gate n
+  after_inner f o n body after = after
+
+  abbrev pub after_in : Option Form → ℕ → ℕ → A → A
+  after_in None n body after = after
+  after_in (Some f) n body after = after_inner f f.op n body after
+
+  abbrev pub around_inner : Form → StatementOp → ℕ → B → B
+  around_inner f (stmt.For loop) n around = flow.inside n f around
+  around_inner f stmt.With n around = flow.inside n f around
+  around_inner f o n around = around
+
+  abbrev pub around_in : Option Form → ℕ → B → B
+  around_in None n around = around
+  around_in (Some f) n around = around_inner f f.op n around
+
+  abbrev pub own_row : Option Form → ℕ → ℕ → List ℕ → A → B → List (Row A B)
+  own_row None n r entries after around = []
+  own_row (Some f) n r entries after around = record { name = n; routine = r; around = around; next = Some after; entries = entries; form = StatementBlock f } ∷ []
+
+  -- the blocks of a statement of a routine, in the order of the text
+  abbrev mutual
+    pub statement_rows : Statement → ℕ → A → B → List (Row A B)
+    statement_rows (Stmt n l f ss) r after around =
+        own_row f n r (entries_of ss) after around ++ inner_rows ss f r (after_in f n (first_entry ss) after) (around_in f n around)
+
+    pub inner_rows : Statements → Option Form → ℕ → A → B → List (Row A B)
+    inner_rows Last f r after around = []
+    inner_rows (Then s ss) f r after around =
+        statement_rows s r (in_sequence f (op_in f) ss after) around ++ inner_rows ss f r after around
+
+  -- after the body of a routine comes the routine's gate
+  abbrev pub after_body : BlockForm → ℕ → A
+  after_body (RoutineBlock f) n = flow.leave n
+  after_body form n = flow.finish
+
+  abbrev pub head_row : Head → Statement → Row A B
+  head_row head body = record { name = head.name; routine = head.name; around = flow.outermost; next = None; entries = entry_of body ∷ []; form = head.form }
+
+  -- the blocks of the program or of a routine, in the order of the text: its own, those of the routines in it, and those of
+  -- its body
+  abbrev mutual
+    pub routine_rows : Routine → List (Row A B)
+    routine_rows (Block head inner body) =
+        head_row head body ∷ (routines_rows inner ++ statement_rows body head.name (after_body head.form head.name) flow.outermost)
+
+    pub routines_rows : Routines → List (Row A B)
+    routines_rows NoRoutine = []
+    routines_rows (Also r rs) = routine_rows r ++ routines_rows rs
+
+-- ---- the table of a core
+
+abbrev pub named : ℕ → Name
+named n = record { 0 = n }
+
+-- the nearest `for` or `with` around, and the end of a link
+abbrev pub link_flow : ControlFlow LinkEnd (Option ℕ)
+link_flow = record {
+  gate = λ n. link.Gate (named n);
+  step = λ n f body after. link.Step (named n);
+  end_with = λ n after. link.End (named n);
+  leave = λ n. link.Leave (named n);
+  finish = link.Finish;
+  outermost = None;
+  inside = λ n f around. Some n;
+}
+
+abbrev pub CoreRow : Type 0
+CoreRow = Row LinkEnd (Option ℕ)
+
+abbrev pub core_rows : Routine → List CoreRow
+core_rows program = routine_rows LinkEnd (Option ℕ) link_flow program
+
+-- ---- labels
+
+-- a label, and where its statement begins
+pub record Label : Type 0 where
+  pub label : ℕ
+  pub entry : ℕ
+
+abbrev pub labelled : Option ℕ → ℕ → List Label
+labelled None entry = []
+labelled (Some l) entry = record { label = l; entry = entry } ∷ []
+
+abbrev mutual
+  pub labels_of : Statement → List Label
+  labels_of (Stmt n l f ss) = labelled l (entry_by f (op_in f) n (first_entry ss)) ++ labels_in ss
+
+  pub labels_in : Statements → List Label
+  labels_in Last = []
+  labels_in (Then s ss) = labels_of s ++ labels_in ss
+
+-- ---- routines
+
+-- the program or a routine, in the table: which one declares it, what is said of it, and where its labels stand
+pub record RoutineRow : Type 0 where
+  pub owner : ℕ
+  pub head : Head
+  pub labels : List Label
+
+abbrev mutual
+  pub routine_list : ℕ → Routine → List RoutineRow
+  routine_list owner (Block head inner body) =
+      record { owner = owner; head = head; labels = labels_of body } ∷ routines_list head.name inner
+
+  pub routines_list : ℕ → Routines → List RoutineRow
+  routines_list owner NoRoutine = []
+  routines_list owner (Also r rs) = routine_list owner r ++ routines_list owner rs
