@@ -66,7 +66,6 @@ pub fn expr_need(expr: &CoreExpr) -> u32
 
 // The temporaries of parts, each of which is evaluated below the values of those before it.
 #[cycle(expr_need)]
-#[tactic(auto, using(crate::proofs::Sums::need_step))]
 fn exprs_need(parts: &[CoreExpr]) -> u32
     ensures { result ≡ counted (exprs_need (exprs_of (map expr_of parts.now)) 0) }
 {
