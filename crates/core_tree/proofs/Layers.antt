@@ -1,8 +1,8 @@
 -- The sums of an expression by its topmost operation.
-use Rattle.std.proofs.Common.{◌≡◌, ◌+◌, max, map, ap}
+use Rattle.std.proofs.Common.{◌≡◌, ◌+◌, max, map, ap, List, [], ◌∷◌, length, refl, arith}
 use Rattle.core_tree.specs.declared.op.CoreExpr.{CoreExpr, out-CoreExpr}
 use Rattle.core_tree.specs.declared.op.CoreExpr.TheFolds.{fold_out-CoreExpr}
-use Rattle.core_tree.specs.Charge.{expr_charge, exprs_charge, op_charge, expr_need, exprs_need, op_need, op_width, width, widths}
+use Rattle.core_tree.specs.Charge.{expr_charge, exprs_charge, op_charge, expr_need, exprs_need, op_need, op_width, part_count, width, widths}
 use Rattle.core_tree.specs.Plain.{Expr, exprs_of}
 use Rattle.core_tree.specs.Views.{expr_of, in_expr}
 
@@ -17,3 +17,7 @@ need_layer e = ap expr_need (fold_out-CoreExpr Expr in_expr e)
 pub width_layer : (e : CoreExpr) → width (expr_of e) ≡ op_width (out-CoreExpr e).op
 unfolding expr_of
 width_layer e = ap width (fold_out-CoreExpr Expr in_expr e)
+
+pub part_count_layer : (ps : List CoreExpr) → part_count (exprs_of (map expr_of ps)) ≡ length ps
+part_count_layer [] = refl
+part_count_layer (p ∷ ps) = omega (arith, part_count_layer ps)

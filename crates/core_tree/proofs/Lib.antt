@@ -1,3 +1,4 @@
 mod Layers
 mod Sums
+mod Tables
 mod Turns

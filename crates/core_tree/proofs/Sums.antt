@@ -1,7 +1,7 @@
 -- Sums that stop counting at their limit.
-use Rattle.std.proofs.Common.{◌≡◌, ℕ, ◌+◌, max, min, arith, refl, ap, sym, ◌∙◌}
+use Rattle.std.proofs.Common.{◌≡◌, ℕ, ◌+◌, max, arith, refl, ap, sym, ◌∙◌}
 use Rattle.core_tree.specs.Charge.{counted, expr_need, exprs_need, width}
-use Rattle.core_tree.specs.Plain.{Expr, Exprs, NoMore, And}
+use Rattle.core_tree.specs.Plain.{Exprs, NoMore, And}
 
 pub counted_sum : (a b : ℕ) → counted (counted a + counted b) ≡ counted (a + b)
 counted_sum a b = omega arith
@@ -17,7 +17,7 @@ below_counted : (es : Exprs) (b : ℕ) → counted (exprs_need es (counted b)) �
 below_counted NoMore b = refl
 below_counted (And e es) b =
     let later : counted (exprs_need es (counted b + width e)) ≡ counted (exprs_need es (b + width e)) =
-        sym (below_counted es (counted b + width e)) ∙ (ap (λ n. counted (exprs_need es n)) (counted_first b (width e)) ∙ below_counted es (b + width e)) in
+    sym (below_counted es (counted b + width e)) ∙ (ap (λ n. counted (exprs_need es n)) (counted_first b (width e)) ∙ below_counted es (b + width e)) in
     counted_max (counted b + expr_need e) (exprs_need es (counted b + width e)) (b + expr_need e) (exprs_need es (b + width e)) (counted_first b (expr_need e)) later
 
 step : (most sum x y : ℕ) → counted x ≡ counted y → counted (max (max most (counted sum)) x) ≡ counted (max most (max sum y))

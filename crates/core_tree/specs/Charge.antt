@@ -21,7 +21,6 @@ use Rattle.core_tree.specs.declared.form.StatementOp.{StatementOp}
 use Rattle.core_tree.specs.declared.form.StatementOp.TheVariants as stmt
 use Rattle.core_tree.specs.declared.form.Parameter.{Parameter}
 use Rattle.core_tree.specs.declared.form.Parameter.TheVariants as parameter
-use Rattle.core_tree.specs.declared.form.RoutineForm.{RoutineForm}
 use Rattle.core_tree.specs.declared.limits.TheConstants.{MAX_COUNTED_CHARGE}
 use Rattle.core_tree.specs.Plain.{Expr, Operation, Exprs, NoMore, And, BlockForm, ProgramBlock, RoutineBlock, StatementBlock}
 
@@ -198,14 +197,14 @@ abbrev pub part_count : Exprs → ℕ
 part_count NoMore = 0
 part_count (And e es) = 1 + part_count es
 
--- one for a `for`, and one for each record variable of a `with`
-abbrev pub own_holds : StatementOp → Exprs → ℕ
-own_holds (stmt.For loop) ps = 1
-own_holds stmt.With ps = part_count ps
-own_holds _ ps = 0
+-- one for a `for`, and one for each record variable of a `with`, which are its parts
+abbrev pub own_holds : StatementOp → ℕ → ℕ
+own_holds (stmt.For loop) parts = 1
+own_holds stmt.With parts = parts
+own_holds _ parts = 0
 
 -- those of the statements around it, and its own
 abbrev pub holds_of : BlockForm → ℕ
 holds_of ProgramBlock = 0
 holds_of (RoutineBlock r) = 0
-holds_of (StatementBlock f) = f.holds + own_holds f.op f.parts
+holds_of (StatementBlock f) = f.holds + own_holds f.op (part_count f.parts)

@@ -1,12 +1,12 @@
 -- Where control goes in a program, and the table of its blocks (ISO 7185:1990, 6.8.3: a sequence is carried out in textual
 -- order, a conditional statement by one branch, a repetitive one by its turns; 6.8.2.4: a `goto` by its label).
-use Rattle.std.specs.Prelude.{ℕ, ◌+◌, List, [], ◌∷◌, ◌++◌, Option, Some, None}
+use Rattle.std.specs.Prelude.{ℕ, List, [], ◌∷◌, ◌++◌, Option, Some, None}
 use Rattle.dice_base.specs.declared.name.Name.{Name}
 use Rattle.core_tree.specs.declared.form.StatementOp.{StatementOp}
 use Rattle.core_tree.specs.declared.form.StatementOp.TheVariants as stmt
 use Rattle.core_tree.specs.declared.program.LinkEnd.{LinkEnd}
 use Rattle.core_tree.specs.declared.program.LinkEnd.TheVariants as link
-use Rattle.core_tree.specs.Plain.{Form, BlockForm, ProgramBlock, RoutineBlock, StatementBlock, Statement, Stmt, Statements, Last, Then, Head, Routine, Block, Routines, NoRoutine, Also}
+use Rattle.core_tree.specs.Plain.{Form, BlockForm, RoutineBlock, StatementBlock, Statement, Stmt, Statements, Last, Then, Head, Routine, Block, Routines, NoRoutine, Also}
 
 -- ---- where a statement begins
 

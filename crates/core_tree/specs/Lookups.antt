@@ -1,5 +1,5 @@
 -- What the look-ups of a core answer, by its table of blocks and its list of routines.
-use Rattle.std.specs.Prelude.{ℕ, ◌+◌, ◌==◌, Bool, true, false, ◌||◌, not, ◌&&◌, List, [], ◌∷◌, map, find, length, slice_get, Option, Some, None, option_map}
+use Rattle.std.specs.Prelude.{ℕ, ◌==◌, Bool, true, false, ◌||◌, not, ◌&&◌, List, [], ◌∷◌, find, slice_get, Option, Some, None, option_map}
 use Rattle.dice_base.specs.declared.name.Name.{Name}
 use Rattle.dice_base.specs.declared.link.LinkTo.{LinkTo}
 use Rattle.dice_base.specs.declared.link.LinkTo.TheVariants as to
@@ -14,6 +14,11 @@ use Rattle.core_tree.specs.declared.program.LinkEnd.TheVariants as link
 -- the block of a name
 abbrev pub block_of : List CoreBlock → ℕ → Option CoreBlock
 block_of blocks n = find (λ b. b.name.0 == n) blocks
+
+-- what stands around a block
+abbrev pub around_by : Option CoreBlock → Option Name
+around_by None = None
+around_by (Some b) = b.around
 
 -- the program or the routine of a name
 abbrev pub routine_of : List CoreRoutine → ℕ → Option CoreRoutine

@@ -1,6 +1,7 @@
 -- Types without their declarations, and the words that their values take (ISO 7185:1990, 6.4). `packed` is no part of a
 -- shape. A shape is the table of types unfolded.
-use Rattle.std.specs.Prelude.{ℕ, ◌+◌, ◌*◌, ℤ, ◌-ℤ◌, unsigned_abs, List, [], ◌∷◌, ◌++◌, length, slice_get, Option, Some, None}
+use Rattle.std.specs.Prelude.{ℕ, ◌+◌, ◌*◌, ℤ, ◌-ℤ◌, unsigned_abs, min, ◌≡◌, List, [], ◌∷◌, ◌++◌, length, map, slice_get, Option, Some, None}
+use Rattle.core_tree.specs.declared.limits.TheConstants.{MAX_COUNTED_WORDS}
 use Rattle.core_tree.specs.declared.shape.Domain.{Domain}
 use Rattle.core_tree.specs.declared.shape.Shape.{Shape}
 use Rattle.core_tree.specs.declared.shape.Shape.TheVariants as shape
@@ -69,6 +70,12 @@ values_of (Enumeration idents) = length idents
 values_of (Subrange host first last) = unsigned_abs (last -ℤ first) + 1
 values_of _ = 0
 
+-- the same of an entry of the table, whose parts do not matter for it
+abbrev pub written_values : WrittenShape → ℕ
+written_values (written.Enumeration idents) = length idents
+written_values (written.Subrange host first last) = unsigned_abs (last -ℤ first) + 1
+written_values _ = 0
+
 -- a set takes eight words, an array or a record the sum of its components, any other value one
 abbrev mutual
   pub words_of : ShapeTree → ℕ
@@ -80,3 +87,15 @@ abbrev mutual
   pub fields_words : Fields → ℕ
   fields_words NoField = 0
   fields_words (Field ident shape fields) = words_of shape + fields_words fields
+
+-- sums of words count up to this and no further
+abbrev pub counted_words : ℕ → ℕ
+counted_words n = min MAX_COUNTED_WORDS n
+
+-- the words of a type over a table
+abbrev pub table_words : List ShapeEntry → Shape → ℕ
+table_words entries s = words_of (tree_of (trees_of entries) s)
+
+-- each entry has the words of its type
+abbrev pub HaveWords : List ShapeEntry → Type 0
+HaveWords entries = map (λ e. e.words) entries ≡ map (λ tree. counted_words (words_of tree)) (trees_of entries)

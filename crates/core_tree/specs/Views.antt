@@ -1,5 +1,5 @@
 -- The plain tree of each type of src/ (`Plain`).
-use Rattle.std.specs.Prelude.{ℕ, List, [], ◌∷◌, ◌++◌, map, Option, Some, None, option_map, option_to_list}
+use Rattle.std.specs.Prelude.{ℕ, List, [], ◌∷◌, ◌++◌, map, option_to_list}
 use Rattle.core_tree.specs.declared.op.Op.{Op}
 use Rattle.core_tree.specs.declared.op.Op.TheVariants as op
 use Rattle.core_tree.specs.declared.op.CoreExpr.{CoreExpr, CoreExpr-F, fold-CoreExpr}
@@ -8,7 +8,7 @@ use Rattle.core_tree.specs.declared.form.StatementForm.{StatementForm}
 use Rattle.core_tree.specs.declared.form.CoreForm.{CoreForm}
 use Rattle.core_tree.specs.declared.form.CoreForm.TheVariants as block
 use Rattle.core_tree.specs.Shapes.{ShapeTree, tree_of}
-use Rattle.core_tree.specs.Plain.{Expr, Operation, Exprs, NoMore, And, exprs_of, Heading, Form, BlockForm, ProgramBlock, RoutineBlock, StatementBlock}
+use Rattle.core_tree.specs.Plain.{Expr, Operation, Exprs, NoMore, And, exprs_of, Heading, BlockForm, ProgramBlock, RoutineBlock, StatementBlock}
 
 -- ---- expressions
 

@@ -1,6 +1,6 @@
 //! The sums of a form: the words of code that its block is given, and the words of temporaries that it takes at most.
-ghost use Rattle.std.specs.Prelude.{◌≡◌, ◌≤◌, ◌+◌, ◌*◌, max, min, map};
-ghost use Rattle.core_tree.specs.Charge.{argument_charge, assign_charge, charge_of, counted, effect_charge, expr_charge, expr_need, exprs_charge, exprs_need, link_charge, need_of, op_charge, op_need, op_width, parameter_charge, parameters_charge, place_charge, set_charge, statement_charge, variable_charge, width, widths, word_charge};
+ghost use Rattle.std.specs.Prelude.{◌≡◌, ◌≤◌, ◌+◌, ◌*◌, max, min, map, length};
+ghost use Rattle.core_tree.specs.Charge.{argument_charge, assign_charge, charge_of, counted, effect_charge, expr_charge, expr_need, exprs_charge, exprs_need, holds_of, link_charge, need_of, op_charge, op_need, op_width, own_holds, parameter_charge, parameters_charge, place_charge, set_charge, statement_charge, variable_charge, width, widths, word_charge};
 ghost use Rattle.core_tree.specs.Plain.{exprs_of};
 ghost use Rattle.core_tree.specs.Views.{bare_form, expr_of};
 
@@ -90,6 +90,39 @@ fn parts_width(parts: &[CoreExpr]) -> u32
     words
 }
 
+/// The holds of a statement: those around it, and its own.
+#[tactic(auto, using(crate::proofs::Layers::part_count_layer))]
+pub fn form_holds(form: &CoreForm) -> u32
+    ensures { result ≡ counted (holds_of (bare_form form.now)) }
+{
+    match form {
+        CoreForm::Program => 0,
+        CoreForm::Routine(_) => 0,
+        CoreForm::Statement(statement) => statement_holds(statement),
+    }
+}
+
+fn statement_holds(form: &StatementForm) -> u32
+    ensures { result ≡ counted (form.now.holds + own_holds form.now.op (length form.now.parts)) }
+{
+    sum(
+        form.holds.min(MAX_COUNTED_CHARGE),
+        own_holds(&form.op, form.parts.len()),
+    )
+}
+
+// The own holds of a statement with so many parts.
+fn own_holds(op: &StatementOp, parts: usize) -> u32
+    ensures value { result ≡ counted (own_holds op.now parts) }
+    ensures small { result ≤ MAX_COUNTED_CHARGE }
+{
+    match op {
+        StatementOp::For(_) => 1,
+        StatementOp::With => count(parts),
+        _ => 0,
+    }
+}
+
 // A sum, counted up to the limit.
 fn sum(first: u32, second: u32) -> u32
     requires first_counted { first ≤ MAX_COUNTED_CHARGE }
@@ -113,7 +146,10 @@ fn count(length: usize) -> u32
 fn statement_form_charge(form: &StatementForm) -> u32
     ensures { result ≡ counted (statement_charge form.now.op + exprs_charge (exprs_of (map expr_of form.now.parts))) }
 {
-    sum(statement_charge(&form.op), exprs_charge(form.parts.as_slice()))
+    sum(
+        statement_charge(&form.op),
+        exprs_charge(form.parts.as_slice()),
+    )
 }
 
 fn statement_charge(op: &StatementOp) -> u32

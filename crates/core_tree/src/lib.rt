@@ -8,15 +8,14 @@
 mod charges;
 mod form;
 mod limits;
+mod lookups;
 mod op;
 mod program;
 mod shape;
 mod table;
 
 pub use charges::{charge, expr_charge, expr_need, need};
-pub use form::{
-    CaseLabel, CoreForm, ForLoop, Parameter, RoutineForm, StatementForm, StatementOp,
-};
+pub use form::{CaseLabel, CoreForm, ForLoop, Parameter, RoutineForm, StatementForm, StatementOp};
 pub use limits::{MAX_COUNTED_CHARGE, MAX_COUNTED_WORDS};
 pub use op::{
     Callee, CoreExpr, EffectOp, Op, PlaceOp, Relation, Scope, SetOp, Storage, Variable, WordOp,

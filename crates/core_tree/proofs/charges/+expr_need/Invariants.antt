@@ -1,4 +1,4 @@
-use Rattle.std.proofs.Common.{◌≡◌, ◌+◌, ◌≤◌, max, drop, map}
+use Rattle.std.proofs.Common.{◌≡◌, ◌≤◌, max, drop, map}
 use Rattle.core_tree.specs.Charge.{counted, exprs_need}
 use Rattle.core_tree.specs.Plain.{exprs_of}
 use Rattle.core_tree.specs.Views.{expr_of}
