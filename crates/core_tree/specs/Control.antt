@@ -1,7 +1,9 @@
 -- Where control goes in a program, and the table of its blocks (ISO 7185:1990, 6.8.3: a sequence is carried out in textual
 -- order, a conditional statement by one branch, a repetitive one by its turns; 6.8.2.4: a `goto` by its label).
-use Rattle.std.specs.Prelude.{ℕ, List, [], ◌∷◌, ◌++◌, Option, Some, None}
+use Rattle.std.specs.Prelude.{ℕ, ◌+◌, ◌==◌, List, [], ◌∷◌, ◌++◌, find, slice_get, Option, Some, None, option_map}
 use Rattle.dice_base.specs.declared.name.Name.{Name}
+use Rattle.dice_base.specs.declared.link.LinkTo.{LinkTo}
+use Rattle.dice_base.specs.declared.link.LinkTo.TheVariants as to
 use Rattle.core_tree.specs.declared.form.StatementOp.{StatementOp}
 use Rattle.core_tree.specs.declared.form.StatementOp.TheVariants as stmt
 use Rattle.core_tree.specs.declared.program.LinkEnd.{LinkEnd}
@@ -115,15 +117,15 @@ module _ (A B : Type 0) (flow : ControlFlow A B) where
   after_body (RoutineBlock f) n = flow.leave n
   after_body form n = flow.finish
 
-  abbrev pub head_row : Head → Statement → Row A B
-  head_row head body = record { name = head.name; routine = head.name; around = flow.outermost; next = None; entries = entry_of body ∷ []; form = head.form }
+  abbrev pub head_row : ℕ → BlockForm → Statement → Row A B
+  head_row n form body = record { name = n; routine = n; around = flow.outermost; next = None; entries = entry_of body ∷ []; form = form }
 
   -- the blocks of the program or of a routine, in the order of the text: its own, those of the routines in it, and those of
   -- its body
   abbrev mutual
     pub routine_rows : Routine → List (Row A B)
-    routine_rows (Block head inner body) =
-        head_row head body ∷ (routines_rows inner ++ statement_rows body head.name (after_body head.form head.name) flow.outermost)
+    routine_rows (Block head form inner body) =
+        head_row head.name form body ∷ (routines_rows inner ++ statement_rows body head.name (after_body form head.name) flow.outermost)
 
     pub routines_rows : Routines → List (Row A B)
     routines_rows NoRoutine = []
@@ -181,9 +183,49 @@ pub record RoutineRow : Type 0 where
 
 abbrev mutual
   pub routine_list : ℕ → Routine → List RoutineRow
-  routine_list owner (Block head inner body) =
+  routine_list owner (Block head form inner body) =
       record { owner = owner; head = head; labels = labels_of body } ∷ routines_list head.name inner
 
   pub routines_list : ℕ → Routines → List RoutineRow
   routines_list owner NoRoutine = []
   routines_list owner (Also r rs) = routine_list owner r ++ routines_list owner rs
+
+-- the program declares itself
+abbrev pub core_routines : Routine → List RoutineRow
+core_routines (Block head form inner body) = routine_list head.name (Block head form inner body)
+
+-- ---- ends of links
+
+abbrev pub row_of : List CoreRow → ℕ → Option CoreRow
+row_of rows n = find (λ r. r.name == n) rows
+
+abbrev pub routine_row_of : List RoutineRow → ℕ → Option RoutineRow
+routine_row_of routines n = find (λ r. r.head.name == n) routines
+
+-- where a statement with a label begins
+abbrev pub label_end : List Label → ℕ → Option LinkEnd
+label_end labels l = option_map (λ x. link.Gate (named x.entry)) (find (λ x. x.label == l) labels)
+
+abbrev pub labels_by : Option RoutineRow → List Label
+labels_by None = []
+labels_by (Some r) = r.labels
+
+-- a routine is called, the program and a statement are not
+abbrev pub form_end : ℕ → BlockForm → Option LinkEnd
+form_end n (RoutineBlock f) = Some (link.Block (named n))
+form_end n form = None
+
+abbrev pub call_end : ℕ → Option CoreRow → Option LinkEnd
+call_end n None = None
+call_end n (Some row) = form_end n row.form
+
+abbrev pub end_by : List CoreRow → List RoutineRow → Option CoreRow → LinkTo → Option LinkEnd
+end_by rows routines None way = None
+end_by rows routines (Some row) to.Next = row.next
+end_by rows routines (Some row) (to.Child k) = option_map (λ n. link.Gate (named n)) (slice_get row.entries k)
+end_by rows routines (Some row) (to.Label l) = label_end (labels_by (routine_row_of routines row.routine)) l
+end_by rows routines (Some row) (to.Routine r) = call_end r.0 (row_of rows r.0)
+
+-- where such a link word of the block of this name leads
+abbrev pub end_of : List CoreRow → List RoutineRow → ℕ → LinkTo → Option LinkEnd
+end_of rows routines n way = end_by rows routines (row_of rows n) way

@@ -64,12 +64,11 @@ pub record Head : Type 0 where
   pub level : ℕ
   pub heading : Heading
   pub locals : List Local
-  pub form : BlockForm
 
--- the program or a routine: its head, the routines in it, and its body
+-- the program or a routine: its head, its own form, the routines in it, and its body
 mutual
   pub data Routine : Type 0 where
-    Block : (head : Head) → (inner : Routines) → (body : Statement) → Routine
+    Block : (head : Head) → (form : BlockForm) → (inner : Routines) → (body : Statement) → Routine
 
   pub data Routines : Type 0 where
     NoRoutine : Routines

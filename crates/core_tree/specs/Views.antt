@@ -1,14 +1,25 @@
 -- The plain tree of each type of src/ (`Plain`).
-use Rattle.std.specs.Prelude.{ℕ, List, [], ◌∷◌, ◌++◌, map, option_to_list}
+use Rattle.std.specs.Prelude.{◌≡◌, ℕ, List, [], ◌∷◌, ◌++◌, map, Option, Some, None, option_map, option_to_list}
+use Rattle.dice_base.specs.declared.link.LinkTo.{LinkTo}
+use Rattle.core_tree.specs.declared.program.LinkEnd.{LinkEnd}
 use Rattle.core_tree.specs.declared.op.Op.{Op}
 use Rattle.core_tree.specs.declared.op.Op.TheVariants as op
 use Rattle.core_tree.specs.declared.op.CoreExpr.{CoreExpr, CoreExpr-F, fold-CoreExpr}
+use Rattle.core_tree.specs.declared.program.CoreBlock.{CoreBlock}
+use Rattle.core_tree.specs.declared.program.CoreHeading.{CoreHeading}
+use Rattle.core_tree.specs.declared.program.CoreLabel.{CoreLabel}
+use Rattle.core_tree.specs.declared.program.CoreRoutine.{CoreRoutine}
+use Rattle.core_tree.specs.declared.program.CoreVariable.{CoreVariable}
+use Rattle.core_tree.specs.declared.program.HeadingParameter.{HeadingParameter}
 use Rattle.core_tree.specs.declared.shape.Shape.{Shape}
+use Rattle.core_tree.specs.declared.shape.ShapeEntry.{ShapeEntry}
+use Rattle.core_tree.specs.Control.{CoreRow, Label, RoutineRow, core_routines, core_rows, end_of}
+use Rattle.core_tree.specs.Lookups.{routine_of}
 use Rattle.core_tree.specs.declared.form.StatementForm.{StatementForm}
 use Rattle.core_tree.specs.declared.form.CoreForm.{CoreForm}
 use Rattle.core_tree.specs.declared.form.CoreForm.TheVariants as block
-use Rattle.core_tree.specs.Shapes.{ShapeTree, tree_of}
-use Rattle.core_tree.specs.Plain.{Expr, Operation, Exprs, NoMore, And, exprs_of, Heading, BlockForm, ProgramBlock, RoutineBlock, StatementBlock}
+use Rattle.core_tree.specs.Shapes.{ShapeTree, tree_of, trees_of}
+use Rattle.core_tree.specs.Plain.{Expr, Operation, Exprs, NoMore, And, exprs_of, Heading, Head, Routine, Form, BlockForm, ProgramBlock, RoutineBlock, StatementBlock}
 
 -- ---- expressions
 
@@ -65,3 +76,50 @@ abbrev pub bare_form : CoreForm → BlockForm
 bare_form block.Program = ProgramBlock
 bare_form (block.Routine r) = RoutineBlock r
 bare_form (block.Statement f) = StatementBlock (record { level = f.level; holds = f.holds; op = f.op; parts = parts_in f; shapes = []; headings = [] })
+
+-- ---- a core as the table of a program
+
+abbrev pub heading_over : List ShapeTree → CoreHeading → Heading
+heading_over trees h = record {
+  parameters = map (λ p. record { ident = p.ident; by_place = p.by_place; shape = tree_of trees p.shape }) h.parameters;
+  result = option_map (tree_of trees) h.result;
+}
+
+-- a routine that is not there has the heading of a procedure without parameters, and does not come
+abbrev pub heading_by : List ShapeTree → Option CoreRoutine → Heading
+heading_by trees None = record { parameters = []; result = None }
+heading_by trees (Some r) = heading_over trees r.heading
+
+abbrev pub head_over : List ShapeTree → CoreRoutine → Head
+head_over trees r = record {
+  name = r.name.0;
+  ident = r.ident;
+  level = r.level;
+  heading = heading_over trees r.heading;
+  locals = map (λ v. record { ident = v.ident; shape = tree_of trees v.shape }) r.variables;
+}
+
+abbrev pub label_row : CoreLabel → Label
+label_row l = record { label = l.label; entry = l.entry.0 }
+
+abbrev pub routine_row : List ShapeTree → CoreRoutine → RoutineRow
+routine_row trees r = record { owner = r.owner.0; head = head_over trees r; labels = map label_row r.labels }
+
+abbrev pub block_row : List ShapeTree → List CoreRoutine → CoreBlock → CoreRow
+block_row trees routines b = record {
+  name = b.name.0;
+  routine = b.routine.0;
+  around = option_map (λ n. n.0) b.around;
+  next = b.next;
+  entries = map (λ n. n.0) b.entries;
+  form = form_over trees (λ n. heading_by trees (routine_of routines n)) b.form;
+}
+
+-- these types, routines and blocks are those of a program: the table of its blocks, and the list of its routines
+pub record IsTableOf (program : Routine) (entries : List ShapeEntry) (routines : List CoreRoutine) (blocks : List CoreBlock) : Type 0 where
+  pub blocks_are : map (block_row (trees_of entries) routines) blocks ≡ core_rows program
+  pub routines_are : map (routine_row (trees_of entries)) routines ≡ core_routines program
+
+-- where a link leads in a program
+abbrev pub program_end : Routine → ℕ → LinkTo → Option LinkEnd
+program_end program n way = end_of (core_rows program) (core_routines program) n way
