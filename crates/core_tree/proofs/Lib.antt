@@ -1,3 +1,4 @@
+mod Examples
 mod Layers
 mod Sums
 mod Tables

@@ -1,6 +1,6 @@
 -- Where control goes in a program, and the table of its blocks (ISO 7185:1990, 6.8.3: a sequence is carried out in textual
 -- order, a conditional statement by one branch, a repetitive one by its turns; 6.8.2.4: a `goto` by its label).
-use Rattle.std.specs.Prelude.{ℕ, ◌+◌, ◌==◌, List, [], ◌∷◌, ◌++◌, find, slice_get, Option, Some, None, option_map}
+use Rattle.std.specs.Prelude.{ℕ, ◌==◌, List, [], ◌∷◌, ◌++◌, find, slice_get, Option, Some, None, option_map}
 use Rattle.dice_base.specs.declared.name.Name.{Name}
 use Rattle.dice_base.specs.declared.link.LinkTo.{LinkTo}
 use Rattle.dice_base.specs.declared.link.LinkTo.TheVariants as to

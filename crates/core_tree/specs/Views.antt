@@ -9,8 +9,6 @@ use Rattle.core_tree.specs.declared.program.CoreBlock.{CoreBlock}
 use Rattle.core_tree.specs.declared.program.CoreHeading.{CoreHeading}
 use Rattle.core_tree.specs.declared.program.CoreLabel.{CoreLabel}
 use Rattle.core_tree.specs.declared.program.CoreRoutine.{CoreRoutine}
-use Rattle.core_tree.specs.declared.program.CoreVariable.{CoreVariable}
-use Rattle.core_tree.specs.declared.program.HeadingParameter.{HeadingParameter}
 use Rattle.core_tree.specs.declared.shape.Shape.{Shape}
 use Rattle.core_tree.specs.declared.shape.ShapeEntry.{ShapeEntry}
 use Rattle.core_tree.specs.Control.{CoreRow, Label, RoutineRow, core_routines, core_rows, end_of}
@@ -19,7 +17,7 @@ use Rattle.core_tree.specs.declared.form.StatementForm.{StatementForm}
 use Rattle.core_tree.specs.declared.form.CoreForm.{CoreForm}
 use Rattle.core_tree.specs.declared.form.CoreForm.TheVariants as block
 use Rattle.core_tree.specs.Shapes.{ShapeTree, tree_of, trees_of}
-use Rattle.core_tree.specs.Plain.{Expr, Operation, Exprs, NoMore, And, exprs_of, Heading, Head, Routine, Form, BlockForm, ProgramBlock, RoutineBlock, StatementBlock}
+use Rattle.core_tree.specs.Plain.{Expr, Operation, Exprs, NoMore, And, exprs_of, Heading, Head, Routine, BlockForm, ProgramBlock, RoutineBlock, StatementBlock}
 
 -- ---- expressions
 
