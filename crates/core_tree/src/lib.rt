@@ -17,6 +17,7 @@ mod table;
 pub use charges::{charge, expr_charge, expr_need, need};
 pub use form::{CaseLabel, CoreForm, ForLoop, Parameter, RoutineForm, StatementForm, StatementOp};
 pub use limits::{MAX_COUNTED_CHARGE, MAX_COUNTED_WORDS};
+pub use lookups::are_apart;
 pub use op::{
     Callee, CoreExpr, EffectOp, Op, PlaceOp, Relation, Scope, SetOp, Storage, Variable, WordOp,
     Written,

@@ -1,6 +1,6 @@
 //! Look-ups in the lists of a core, each a linear search.
 ghost use Rattle.std.specs.Prelude.{◌≡◌, length, option_copied, option_map, slice_get};
-ghost use Rattle.core_tree.specs.Lookups.{block_of, call_end, end_in, form_end, label_end, routine_of};
+ghost use Rattle.core_tree.specs.Lookups.{are_apart, block_of, call_end, end_in, form_end, has_block, label_end, routine_of};
 
 use crate::{CoreBlock, CoreForm, CoreLabel, CoreRoutine, LinkEnd};
 use dice_base::{LinkTo, Name};
@@ -82,4 +82,28 @@ fn form_end(name: Name, form: &CoreForm) -> Option<LinkEnd>
         CoreForm::Program => None,
         CoreForm::Statement(_) => None,
     }
+}
+
+/// Whether no two blocks have one name, which each core keeps. Takes the square of their number in steps, and no memory.
+pub fn are_apart(blocks: &[CoreBlock]) -> bool
+    ensures { result ≡ are_apart blocks.now }
+{
+    for at in 0..blocks.len() {
+        if has_block(&blocks[at + 1..], blocks[at].name) {
+            return false;
+        }
+    }
+    true
+}
+
+// Whether a block has this name.
+fn has_block(blocks: &[CoreBlock], name: Name) -> bool
+    ensures { result ≡ has_block blocks.now name.0 }
+{
+    for block in blocks {
+        if block.name == name {
+            return true;
+        }
+    }
+    false
 }
