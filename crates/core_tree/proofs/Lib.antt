@@ -1,3 +1,4 @@
+pub mod Ends
 mod Examples
 mod Layers
 mod Sums

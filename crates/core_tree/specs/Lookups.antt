@@ -33,35 +33,35 @@ abbrev pub are_apart : List CoreBlock → Bool
 are_apart [] = true
 are_apart (b ∷ bs) = not (has_block bs b.name.0) && are_apart bs
 
--- ---- ends of links
+-- ---- ends of links, over the lists of a core. `end_of` of Control says the same of the table of a program
 
 -- where a label stands
-abbrev pub label_end : List CoreLabel → ℕ → Option LinkEnd
-label_end labels l = option_map (λ x. link.Gate x.entry) (find (λ x. x.label == l) labels)
+abbrev pub label_link : List CoreLabel → ℕ → Option LinkEnd
+label_link labels l = option_map (λ x. link.Gate x.entry) (find (λ x. x.label == l) labels)
 
-abbrev pub labels_by : Option CoreRoutine → List CoreLabel
-labels_by None = []
-labels_by (Some r) = r.labels
+abbrev pub core_labels : Option CoreRoutine → List CoreLabel
+core_labels None = []
+core_labels (Some r) = r.labels
 
 -- a routine is called, the program and a statement are not
-abbrev pub form_end : Name → CoreForm → Option LinkEnd
-form_end n (form.Routine r) = Some (link.Block n)
-form_end n f = None
+abbrev pub form_link : Name → CoreForm → Option LinkEnd
+form_link n (form.Routine r) = Some (link.Block n)
+form_link n f = None
 
-abbrev pub call_end : Name → Option CoreBlock → Option LinkEnd
-call_end n None = None
-call_end n (Some b) = form_end n b.form
+abbrev pub call_link : Name → Option CoreBlock → Option LinkEnd
+call_link n None = None
+call_link n (Some b) = form_link n b.form
 
 -- the end of a link word of a block
-abbrev pub end_in : List CoreBlock → List CoreRoutine → CoreBlock → LinkTo → Option LinkEnd
-end_in blocks routines b to.Next = b.next
-end_in blocks routines b (to.Child k) = option_map (λ n. link.Gate n) (slice_get b.entries k)
-end_in blocks routines b (to.Label l) = label_end (labels_by (routine_of routines b.routine.0)) l
-end_in blocks routines b (to.Routine r) = call_end r (block_of blocks r.0)
+abbrev pub link_in : List CoreBlock → List CoreRoutine → CoreBlock → LinkTo → Option LinkEnd
+link_in blocks routines b to.Next = b.next
+link_in blocks routines b (to.Child k) = option_map (λ n. link.Gate n) (slice_get b.entries k)
+link_in blocks routines b (to.Label l) = label_link (core_labels (routine_of routines b.routine.0)) l
+link_in blocks routines b (to.Routine r) = call_link r (block_of blocks r.0)
 
-abbrev pub end_by : List CoreBlock → List CoreRoutine → Option CoreBlock → LinkTo → Option LinkEnd
-end_by blocks routines None to = None
-end_by blocks routines (Some b) to = end_in blocks routines b to
+abbrev pub link_by : List CoreBlock → List CoreRoutine → Option CoreBlock → LinkTo → Option LinkEnd
+link_by blocks routines None to = None
+link_by blocks routines (Some b) to = link_in blocks routines b to
 
-abbrev pub end_of : List CoreBlock → List CoreRoutine → ℕ → LinkTo → Option LinkEnd
-end_of blocks routines n to = end_by blocks routines (block_of blocks n) to
+abbrev pub link_of : List CoreBlock → List CoreRoutine → ℕ → LinkTo → Option LinkEnd
+link_of blocks routines n to = link_by blocks routines (block_of blocks n) to

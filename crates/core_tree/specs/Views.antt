@@ -113,10 +113,22 @@ block_row trees routines b = record {
   form = form_over trees (λ n. heading_by trees (routine_of routines n)) b.form;
 }
 
--- these types, routines and blocks are those of a program: the table of its blocks, and the list of its routines
+-- the table of a core, and its routines
+abbrev pub block_rows : List ShapeEntry → List CoreRoutine → List CoreBlock → List CoreRow
+block_rows entries routines blocks = map (block_row (trees_of entries) routines) blocks
+
+abbrev pub routine_rows : List ShapeEntry → List CoreRoutine → List RoutineRow
+routine_rows entries routines = map (routine_row (trees_of entries)) routines
+
+-- where a link leads in a core
+abbrev pub core_end : List ShapeEntry → List CoreRoutine → List CoreBlock → ℕ → LinkTo → Option LinkEnd
+core_end entries routines blocks n way = end_of (block_rows entries routines blocks) (routine_rows entries routines) n way
+
+-- these types, routines and blocks are those of a program: the table of its blocks, and the list of its routines. Then a link
+-- leads where `program_end` says
 pub record IsTableOf (program : Routine) (entries : List ShapeEntry) (routines : List CoreRoutine) (blocks : List CoreBlock) : Type 0 where
-  pub blocks_are : map (block_row (trees_of entries) routines) blocks ≡ core_rows program
-  pub routines_are : map (routine_row (trees_of entries)) routines ≡ core_routines program
+  pub blocks_are : block_rows entries routines blocks ≡ core_rows program
+  pub routines_are : routine_rows entries routines ≡ core_routines program
 
 -- where a link leads in a program
 abbrev pub program_end : Routine → ℕ → LinkTo → Option LinkEnd

@@ -1,6 +1,6 @@
 //! Look-ups in the lists of a core, each a linear search.
 ghost use Rattle.std.specs.Prelude.{◌≡◌, length, option_copied, option_map, slice_get};
-ghost use Rattle.core_tree.specs.Lookups.{are_apart, block_of, call_end, end_in, form_end, has_block, label_end, routine_of};
+ghost use Rattle.core_tree.specs.Lookups.{are_apart, block_of, call_link, link_in, form_link, has_block, label_link, routine_of};
 
 use crate::{CoreBlock, CoreForm, CoreLabel, CoreRoutine, LinkEnd};
 use dice_base::{LinkTo, Name};
@@ -30,13 +30,13 @@ pub fn find_routine(routines: &[CoreRoutine], name: Name) -> Option<&CoreRoutine
 }
 
 /// Where a link word of a block leads.
-pub fn end_in(
+pub fn link_in(
     blocks: &[CoreBlock],
     routines: &[CoreRoutine],
     block: &CoreBlock,
     to: LinkTo,
 ) -> Option<LinkEnd>
-    ensures { result ≡ end_in blocks.now routines.now block.now to }
+    ensures { result ≡ link_in blocks.now routines.now block.now to }
 {
     match to {
         LinkTo::Next => block.next,
@@ -45,16 +45,16 @@ pub fn end_in(
             None => None,
         },
         LinkTo::Label(label) => match find_routine(routines, block.routine) {
-            Some(routine) => label_end(routine.labels.as_slice(), label),
+            Some(routine) => label_link(routine.labels.as_slice(), label),
             None => None,
         },
-        LinkTo::Routine(name) => call_end(blocks, name),
+        LinkTo::Routine(name) => call_link(blocks, name),
     }
 }
 
 // Where a label stands.
-fn label_end(labels: &[CoreLabel], label: u16) -> Option<LinkEnd>
-    ensures { result ≡ label_end labels.now label }
+fn label_link(labels: &[CoreLabel], label: u16) -> Option<LinkEnd>
+    ensures { result ≡ label_link labels.now label }
 {
     for stands in labels {
         if stands.label == label {
@@ -65,17 +65,17 @@ fn label_end(labels: &[CoreLabel], label: u16) -> Option<LinkEnd>
 }
 
 // The block of a routine that is called.
-fn call_end(blocks: &[CoreBlock], name: Name) -> Option<LinkEnd>
-    ensures { result ≡ call_end name (block_of blocks.now name.0) }
+fn call_link(blocks: &[CoreBlock], name: Name) -> Option<LinkEnd>
+    ensures { result ≡ call_link name (block_of blocks.now name.0) }
 {
     match find_block(blocks, name) {
-        Some(block) => form_end(name, &block.form),
+        Some(block) => form_link(name, &block.form),
         None => None,
     }
 }
 
-fn form_end(name: Name, form: &CoreForm) -> Option<LinkEnd>
-    ensures { result ≡ form_end name form.now }
+fn form_link(name: Name, form: &CoreForm) -> Option<LinkEnd>
+    ensures { result ≡ form_link name form.now }
 {
     match form {
         CoreForm::Routine(_) => Some(LinkEnd::Block(name)),

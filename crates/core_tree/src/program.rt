@@ -1,11 +1,11 @@
 //! A resolved program: its types, its routines and its blocks.
 ghost use Rattle.std.specs.Prelude.{◌≡◌, ◌≤◌, IsTrue, length, option_copied, option_map, slice_get};
 ghost use Rattle.core_tree.specs.Charge.{counted, holds_of};
-ghost use Rattle.core_tree.specs.Lookups.{are_apart, around_by, block_of, end_of};
-ghost use Rattle.core_tree.specs.Views.{bare_form};
+ghost use Rattle.core_tree.specs.Lookups.{are_apart, around_by, block_of, link_of};
+ghost use Rattle.core_tree.specs.Views.{bare_form, core_end};
 
 use crate::charges::form_holds;
-use crate::lookups::{end_in, find_block};
+use crate::lookups::{find_block, link_in};
 use crate::{CoreForm, Shape, ShapeTable};
 use dice_base::{LinkTo, Name, Text};
 use sqlite_items::Items;
@@ -174,11 +174,19 @@ impl Core {
 
     /// Where such a link word of the block of this name leads. `None` exactly where no block has the name, or there is no
     /// such substatement, label or routine, or nothing comes after the block. Takes no memory.
+    #[tactic(auto, using(crate::proofs::Ends::link_agrees))]
     pub fn link_end(&self, name: Name, to: LinkTo) -> Option<LinkEnd>
-        ensures value { result ≡ end_of self.now.blocks self.now.routines name.0 to }
+        ensures value { let core = self.now in result ≡ core_end core.shapes.entries core.routines core.blocks name.0 to }
+    {
+        self.link_of(name, to)
+    }
+
+    // The same, over the lists of the core.
+    fn link_of(&self, name: Name, to: LinkTo) -> Option<LinkEnd>
+        ensures { result ≡ link_of self.now.blocks self.now.routines name.0 to }
     {
         match self.block(name) {
-            Some(block) => end_in(self.blocks.as_slice(), self.routines.as_slice(), block, to),
+            Some(block) => link_in(self.blocks.as_slice(), self.routines.as_slice(), block, to),
             None => None,
         }
     }
