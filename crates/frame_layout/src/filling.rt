@@ -25,19 +25,9 @@ pub fn frame_of(
         rows: Items::new(alloc),
         words: 0,
     };
-    put_result(
-        alloc,
-        shapes,
-        &mut frame,
-        &routine.ident,
-        routine.heading.result,
-    )?;
-    put_parameters(
-        alloc,
-        shapes,
-        &mut frame,
-        routine.heading.parameters.as_slice(),
-    )?;
+    let heading = &routine.heading;
+    put_result(alloc, shapes, &mut frame, &routine.ident, heading.result)?;
+    put_parameters(alloc, shapes, &mut frame, heading.parameters.as_slice())?;
     put_variables(alloc, shapes, &mut frame, routine.variables.as_slice())?;
     Ok(frame)
 }
