@@ -1,5 +1,6 @@
 pub mod Ends
 mod Examples
+pub mod Flows
 mod Layers
 mod Sums
 mod Tables

@@ -154,6 +154,56 @@ CoreRow = Row LinkEnd (Option ℕ)
 abbrev pub core_rows : Routine → List CoreRow
 core_rows program = routine_rows LinkEnd (Option ℕ) link_flow program
 
+-- ---- the table of the plain machine
+
+-- where control goes after a statement, and on from there without passing a gate: to a gate; to the step of a `for`, with its
+-- hold and the first statement of its body; to the end of a `with`; to the gate of a routine; to the end of the program
+pub data Continuation : Type 0 where
+  ToGate : (name : ℕ) → Continuation
+  ToStep : (name : ℕ) → (form : Form) → (body : ℕ) → (otherwise : Continuation) → Continuation
+  ToEnd : (name : ℕ) → (otherwise : Continuation) → Continuation
+  ToLeave : (name : ℕ) → Continuation
+  ToFinish : Continuation
+
+-- a `for` or a `with` that stands around a statement
+pub record Enclosing : Type 0 where
+  pub name : ℕ
+  pub form : Form
+
+-- the outermost stands first
+abbrev pub machine_flow : ControlFlow Continuation (List Enclosing)
+machine_flow = record {
+  gate = ToGate;
+  step = ToStep;
+  end_with = ToEnd;
+  leave = ToLeave;
+  finish = ToFinish;
+  outermost = [];
+  inside = λ n f around. around ++ record { name = n; form = f } ∷ [];
+}
+
+abbrev pub MachineRow : Type 0
+MachineRow = Row Continuation (List Enclosing)
+
+abbrev pub machine_rows : Routine → List MachineRow
+machine_rows program = routine_rows Continuation (List Enclosing) machine_flow program
+
+-- what a core keeps of it: the first that comes, and the nearest around
+abbrev pub link_to : Continuation → LinkEnd
+link_to (ToGate n) = link.Gate (named n)
+link_to (ToStep n f body otherwise) = link.Step (named n)
+link_to (ToEnd n otherwise) = link.End (named n)
+link_to (ToLeave n) = link.Leave (named n)
+link_to ToFinish = link.Finish
+
+abbrev pub nearest : List Enclosing → Option ℕ
+nearest [] = None
+nearest (x ∷ []) = Some x.name
+nearest (x ∷ (y ∷ ys)) = nearest (y ∷ ys)
+
+abbrev pub core_row : MachineRow → CoreRow
+core_row r = record { name = r.name; routine = r.routine; around = nearest r.around; next = option_map link_to r.next; entries = r.entries; form = r.form }
+
 -- ---- labels
 
 -- a label, and where its statement begins
