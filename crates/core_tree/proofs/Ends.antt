@@ -11,11 +11,12 @@ use Rattle.core_tree.specs.declared.program.CoreLabel.{CoreLabel}
 use Rattle.core_tree.specs.declared.program.CoreRoutine.{CoreRoutine}
 use Rattle.core_tree.specs.declared.program.LinkEnd.TheVariants as link
 use Rattle.core_tree.specs.declared.shape.ShapeEntry.{ShapeEntry}
-use Rattle.core_tree.specs.Control.{call_end, end_by, form_end, label_end, labels_by, named, routine_row_of, row_of}
+use Rattle.core_tree.specs.Control.{call_end, end_by, form_end, core_rows, end_of, label_end, labels_by, named, routine_row_of, row_of}
 use Rattle.core_tree.specs.Lookups.{block_of, call_link, core_labels, form_link, label_link, link_by, link_in, link_of, routine_of}
-use Rattle.core_tree.specs.Plain.{Heading}
+use Rattle.core_tree.specs.Charge.{charge_of, holds_of, need_of}
+use Rattle.core_tree.specs.Plain.{Heading, Routine}
 use Rattle.core_tree.specs.Shapes.{ShapeTree, trees_of}
-use Rattle.core_tree.specs.Views.{block_row, block_rows, core_end, form_over, label_row, routine_row, routine_rows}
+use Rattle.core_tree.specs.Views.{IsTableOf, bare_form, program_end, block_row, block_rows, core_end, form_over, label_row, routine_row, routine_rows}
 
 by_test : {A B : Type 0} (f : A → B) (b : Bool) (x : A) (r : Option A) (s : Option B) → s ≡ option_map f r → cond b (Some (f x)) s ≡ option_map f (cond b (Some x) r)
 by_test f true x r s same = refl
@@ -75,3 +76,23 @@ pub link_agrees : (entries : List ShapeEntry) (routines : List CoreRoutine) (blo
 link_agrees entries routines blocks n way =
     sym (ap (λ o. end_by (block_rows entries routines blocks) (routine_rows entries routines) o way) (row_of_block (trees_of entries) routines blocks n)
     ∙ by_agrees (trees_of entries) routines blocks (block_of blocks n) way)
+
+pub program_links : (program : Routine) (entries : List ShapeEntry) (routines : List CoreRoutine) (blocks : List CoreBlock) (n : ℕ) (way : LinkTo)
+    → IsTableOf program entries routines blocks → core_end entries routines blocks n way ≡ program_end program n way
+program_links program entries routines blocks n way is =
+    ap (λ rows. end_of rows (routine_rows entries routines) n way) is.blocks_are ∙ ap (λ rs. end_of (core_rows program) rs n way) is.routines_are
+
+pub charge_over : (trees : List ShapeTree) (headings : ℕ → Heading) (f : CoreForm) → charge_of (form_over trees headings f) ≡ charge_of (bare_form f)
+charge_over trees headings form.Program = refl
+charge_over trees headings (form.Routine r) = refl
+charge_over trees headings (form.Statement s) = refl
+
+pub need_over : (trees : List ShapeTree) (headings : ℕ → Heading) (f : CoreForm) → need_of (form_over trees headings f) ≡ need_of (bare_form f)
+need_over trees headings form.Program = refl
+need_over trees headings (form.Routine r) = refl
+need_over trees headings (form.Statement s) = refl
+
+pub holds_over : (trees : List ShapeTree) (headings : ℕ → Heading) (f : CoreForm) → holds_of (form_over trees headings f) ≡ holds_of (bare_form f)
+holds_over trees headings form.Program = refl
+holds_over trees headings (form.Routine r) = refl
+holds_over trees headings (form.Statement s) = refl

@@ -23,7 +23,7 @@ use Rattle.core_tree.specs.declared.shape.ShapeEntry.{ShapeEntry}
 use Rattle.core_tree.specs.declared.shape.WrittenShape.TheVariants as entry
 use Rattle.core_tree.specs.Charge.{charge_of, expr_need, holds_of, need_of}
 use Rattle.core_tree.specs.Control.{core_rows, named}
-use Rattle.core_tree.specs.Plain.{Expr, Operation, NoMore, And, exprs_of, Form, ProgramBlock, RoutineBlock, StatementBlock, Statement, Stmt, Statements, Last, Then, Head, Routine, Block, NoRoutine, Also}
+use Rattle.core_tree.specs.Plain.{head_form, Expr, Operation, NoMore, And, exprs_of, Form, ProgramBlock, RoutineBlock, StatementBlock, Statement, Stmt, Statements, Last, Then, Head, Routine, Block, NoRoutine, Also}
 use Rattle.core_tree.specs.Shapes.{Integer, Subrange, ArrayOf, trees_of, words_of}
 use Rattle.core_tree.specs.Views.{program_end}
 
@@ -146,7 +146,7 @@ head n level = record { name = n; ident = []; level = level; heading = record { 
 
 -- begin 4: i := 0; 5: s := 0; 6: while i < 5 do 7: begin 8: s := s + i; 9: i := i + 1 end; 10: writeln(s:1) end
 abbrev loop_program : Routine
-loop_program = Block (head 1 0) ProgramBlock NoRoutine (compound 3 (
+loop_program = Block (head 1 0) NoRoutine (compound 3 (
     single 4 (assign (at 0) (number 0)) ∷
     single 5 (assign (at 1) (number 0)) ∷
     around 6 (form stmt.While (two (op.Word (word.Compare relation.Less)) (value 0) (number 5) ∷ [])) (
@@ -176,8 +176,8 @@ test = form (stmt.If true) (number 1 ∷ [])
 -- procedure 2: begin 4: for i := 1 to 2 do 5: with a do 6: if 1 then 7: goto 9 else 8: repeat 9: (label 9) ; 10: (empty) until 1 end;
 -- the program 11: begin 12: call of 2 end
 abbrev nested_program : Routine
-nested_program = Block (head 1 0) ProgramBlock
-    (Also (Block (head 2 1) (RoutineBlock (record { level = 1; parameters = []; function = false; local_words = 0 })) NoRoutine (compound 3 (
+nested_program = Block (head 1 0)
+    (Also (Block (head 2 1) NoRoutine (compound 3 (
     around 4 (form (stmt.For turns) (number 1 ∷ number 2 ∷ [])) (
     around 5 (form stmt.With (hold 2 (at 0) ∷ [])) (
     around 6 test (
@@ -212,3 +212,13 @@ nested_call = refl
 
 no_call : program_end nested_program 12 (to.Routine (named 1)) ≡ None
 no_call = refl
+
+-- function f(n: integer; var k: t): integer with a variable of type t, an array of ten integers
+function_form : head_form (record {
+  name = 2;
+  ident = [];
+  level = 1;
+  heading = record { parameters = record { ident = []; by_place = false; shape = Integer } ∷ record { ident = []; by_place = true; shape = ArrayOf (Subrange Integer (pos 1) (pos 10)) Integer } ∷ []; result = Some Integer };
+  locals = record { ident = []; shape = ArrayOf (Subrange Integer (pos 1) (pos 10)) Integer } ∷ [];
+}) ≡ RoutineBlock (record { level = 1; parameters = parameter.Scalar ∷ parameter.ByPlace ∷ []; function = true; local_words = 10 })
+function_form = refl

@@ -1,12 +1,12 @@
 -- The table of a core is that of the plain machine, of which it keeps the first place that control comes to and the nearest
 -- statement around.
-use Rattle.std.proofs.Common.{◌≡◌, ℕ, List, [], ◌∷◌, ◌++◌, map, Option, Some, None, option_map, refl, sym, ap, ◌∙◌}
+use Rattle.std.proofs.Common.{◌≡◌, ℕ, List, [], ◌∷◌, ◌++◌, map, Option, Some, None, refl, ap, ◌∙◌}
 use Rattle.std.proofs.lemmas.List.{map-append}
 use Rattle.core_tree.specs.declared.form.StatementOp.{StatementOp}
 use Rattle.core_tree.specs.declared.form.StatementOp.TheVariants as stmt
 use Rattle.core_tree.specs.declared.program.LinkEnd.{LinkEnd}
-use Rattle.core_tree.specs.Control.{Continuation, CoreRow, Enclosing, MachineRow, after_body, after_in, after_inner, around_in, around_inner, core_row, core_rows, entries_of, entry_of, first_entry, head_row, in_sequence, inner_rows, link_flow, link_to, machine_flow, machine_rows, nearest, next_in, op_in, own_row, routine_rows, routines_rows, statement_rows}
-use Rattle.core_tree.specs.Plain.{Form, BlockForm, ProgramBlock, RoutineBlock, StatementBlock, Statement, Stmt, Statements, Last, Then, Head, Routine, Block, Routines, NoRoutine, Also}
+use Rattle.core_tree.specs.Control.{Continuation, Enclosing, after_body, after_in, after_inner, around_in, around_inner, core_row, core_rows, entries_of, first_entry, head_row, in_sequence, inner_rows, link_flow, link_to, machine_flow, machine_rows, nearest, next_in, op_in, own_row, routine_rows, routines_rows, statement_rows}
+use Rattle.core_tree.specs.Plain.{Form, BlockForm, ProgramBlock, RoutineBlock, StatementBlock, Statement, Stmt, Statements, Last, Then, head_form, Routine, Block, Routines, NoRoutine, Also}
 
 nearest-append : (xs : List Enclosing) (x : Enclosing) → nearest (xs ++ x ∷ []) ≡ Some x.name
 nearest-append [] x = refl
@@ -99,16 +99,16 @@ mutual
       map-append core_row (own_row C E machine_flow f n r (entries_of ss) a b) (inner_rows C E machine_flow ss f r (after_in C E machine_flow f n (first_entry ss) a) (around_in C E machine_flow f n b))
       ∙ (ap (λ xs. xs ++ map core_row (inner_rows C E machine_flow ss f r (after_in C E machine_flow f n (first_entry ss) a) (around_in C E machine_flow f n b))) (own_agrees f n r (entries_of ss) a b)
       ∙ ap (λ xs. own_row L N link_flow f n r (entries_of ss) (link_to a) (nearest b) ++ xs)
-          (inner_agrees ss f r (after_in C E machine_flow f n (first_entry ss) a) (around_in C E machine_flow f n b)
-          ∙ (ap (λ x. inner_rows L N link_flow ss f r x (nearest (around_in C E machine_flow f n b))) (after_agrees f n (first_entry ss) a)
-          ∙ ap (λ y. inner_rows L N link_flow ss f r (after_in L N link_flow f n (first_entry ss) (link_to a)) y) (around_agrees f n b))))
+      (inner_agrees ss f r (after_in C E machine_flow f n (first_entry ss) a) (around_in C E machine_flow f n b)
+      ∙ (ap (λ x. inner_rows L N link_flow ss f r x (nearest (around_in C E machine_flow f n b))) (after_agrees f n (first_entry ss) a)
+      ∙ ap (λ y. inner_rows L N link_flow ss f r (after_in L N link_flow f n (first_entry ss) (link_to a)) y) (around_agrees f n b))))
 
   inner_agrees : (ss : Statements) (f : Option Form) (r : ℕ) (a : C) (b : E) → map core_row (inner_rows C E machine_flow ss f r a b) ≡ inner_rows L N link_flow ss f r (link_to a) (nearest b)
   inner_agrees Last f r a b = refl
   inner_agrees (Then s ss) f r a b =
       map-append core_row (statement_rows C E machine_flow s r (in_sequence C E machine_flow f (op_in f) ss a) b) (inner_rows C E machine_flow ss f r a b)
       ∙ (ap (λ xs. xs ++ map core_row (inner_rows C E machine_flow ss f r a b))
-          (statement_agrees s r (in_sequence C E machine_flow f (op_in f) ss a) b ∙ ap (λ x. statement_rows L N link_flow s r x (nearest b)) (sequence_agrees f ss a))
+      (statement_agrees s r (in_sequence C E machine_flow f (op_in f) ss a) b ∙ ap (λ x. statement_rows L N link_flow s r x (nearest b)) (sequence_agrees f ss a))
       ∙ ap (λ xs. statement_rows L N link_flow s r (in_sequence L N link_flow f (op_in f) ss (link_to a)) (nearest b) ++ xs) (inner_agrees ss f r a b))
 
 body_agrees : (form : BlockForm) (n : ℕ) → link_to (after_body C E machine_flow form n) ≡ after_body L N link_flow form n
@@ -118,12 +118,12 @@ body_agrees (StatementBlock f) n = refl
 
 mutual
   routine_agrees : (p : Routine) → map core_row (routine_rows C E machine_flow p) ≡ routine_rows L N link_flow p
-  routine_agrees (Block head form inner body) =
-      ap (λ xs. head_row L N link_flow head.name form body ∷ xs)
-        (map-append core_row (routines_rows C E machine_flow inner) (statement_rows C E machine_flow body head.name (after_body C E machine_flow form head.name) [])
-        ∙ (ap (λ xs. xs ++ map core_row (statement_rows C E machine_flow body head.name (after_body C E machine_flow form head.name) [])) (routines_agree inner)
-        ∙ ap (λ xs. routines_rows L N link_flow inner ++ xs)
-            (statement_agrees body head.name (after_body C E machine_flow form head.name) [] ∙ ap (λ x. statement_rows L N link_flow body head.name x None) (body_agrees form head.name))))
+  routine_agrees (Block head inner body) =
+      ap (λ xs. head_row L N link_flow head.name (head_form head) body ∷ xs)
+      (map-append core_row (routines_rows C E machine_flow inner) (statement_rows C E machine_flow body head.name (after_body C E machine_flow (head_form head) head.name) [])
+      ∙ (ap (λ xs. xs ++ map core_row (statement_rows C E machine_flow body head.name (after_body C E machine_flow (head_form head) head.name) [])) (routines_agree inner)
+      ∙ ap (λ xs. routines_rows L N link_flow inner ++ xs)
+      (statement_agrees body head.name (after_body C E machine_flow (head_form head) head.name) [] ∙ ap (λ x. statement_rows L N link_flow body head.name x None) (body_agrees (head_form head) head.name))))
 
   routines_agree : (rs : Routines) → map core_row (routines_rows C E machine_flow rs) ≡ routines_rows L N link_flow rs
   routines_agree NoRoutine = refl

@@ -8,7 +8,7 @@ use Rattle.core_tree.specs.declared.form.StatementOp.{StatementOp}
 use Rattle.core_tree.specs.declared.form.StatementOp.TheVariants as stmt
 use Rattle.core_tree.specs.declared.program.LinkEnd.{LinkEnd}
 use Rattle.core_tree.specs.declared.program.LinkEnd.TheVariants as link
-use Rattle.core_tree.specs.Plain.{Form, BlockForm, RoutineBlock, StatementBlock, Statement, Stmt, Statements, Last, Then, Head, Routine, Block, Routines, NoRoutine, Also}
+use Rattle.core_tree.specs.Plain.{Form, BlockForm, RoutineBlock, StatementBlock, Statement, Stmt, Statements, Last, Then, Head, head_form, Routine, Block, Routines, NoRoutine, Also}
 
 -- ---- where a statement begins
 
@@ -124,8 +124,8 @@ module _ (A B : Type 0) (flow : ControlFlow A B) where
   -- its body
   abbrev mutual
     pub routine_rows : Routine → List (Row A B)
-    routine_rows (Block head form inner body) =
-        head_row head.name form body ∷ (routines_rows inner ++ statement_rows body head.name (after_body form head.name) flow.outermost)
+    routine_rows (Block head inner body) =
+        head_row head.name (head_form head) body ∷ (routines_rows inner ++ statement_rows body head.name (after_body (head_form head) head.name) flow.outermost)
 
     pub routines_rows : Routines → List (Row A B)
     routines_rows NoRoutine = []
@@ -233,7 +233,7 @@ pub record RoutineRow : Type 0 where
 
 abbrev mutual
   pub routine_list : ℕ → Routine → List RoutineRow
-  routine_list owner (Block head form inner body) =
+  routine_list owner (Block head inner body) =
       record { owner = owner; head = head; labels = labels_of body } ∷ routines_list head.name inner
 
   pub routines_list : ℕ → Routines → List RoutineRow
@@ -242,7 +242,7 @@ abbrev mutual
 
 -- the program declares itself
 abbrev pub core_routines : Routine → List RoutineRow
-core_routines (Block head form inner body) = routine_list head.name (Block head form inner body)
+core_routines (Block head inner body) = routine_list head.name (Block head inner body)
 
 -- ---- ends of links
 

@@ -1,10 +1,12 @@
 -- The plain trees of resolved programs, over which their meaning, their sums and their order of control are defined. The
 -- declared types of src/ that lead back to themselves do not compute; these do.
-use Rattle.std.specs.Prelude.{ℕ, zero, suc, Bool, List, [], ◌∷◌, Option, Some, None}
+use Rattle.std.specs.Prelude.{ℕ, zero, suc, ◌+◌, Bool, true, false, if◌then◌else◌, List, [], ◌∷◌, map, Option, Some, None}
 use Rattle.core_tree.specs.declared.op.Op.{Op}
 use Rattle.core_tree.specs.declared.form.StatementOp.{StatementOp}
 use Rattle.core_tree.specs.declared.form.RoutineForm.{RoutineForm}
-use Rattle.core_tree.specs.Shapes.{ShapeTree}
+use Rattle.core_tree.specs.declared.form.Parameter.{Parameter}
+use Rattle.core_tree.specs.declared.form.Parameter.TheVariants as parameter
+use Rattle.core_tree.specs.Shapes.{ShapeTree, SetOf, ArrayOf, RecordOf, counted_words, words_of}
 
 -- an operation and its parts, which are evaluated from the first on
 mutual
@@ -65,10 +67,10 @@ pub record Head : Type 0 where
   pub heading : Heading
   pub locals : List Local
 
--- the program or a routine: its head, its own form, the routines in it, and its body
+-- the program or a routine: its head, the routines in it, and its body
 mutual
   pub data Routine : Type 0 where
-    Block : (head : Head) → (form : BlockForm) → (inner : Routines) → (body : Statement) → Routine
+    Block : (head : Head) → (inner : Routines) → (body : Statement) → Routine
 
   pub data Routines : Type 0 where
     NoRoutine : Routines
@@ -94,3 +96,35 @@ joined (And e es) fs = And e (joined es fs)
 abbrev pub exprs_of : List Expr → Exprs
 exprs_of [] = NoMore
 exprs_of (e ∷ es) = And e (exprs_of es)
+
+-- ---- the own form of a routine
+
+-- how a value parameter of this type is taken
+abbrev pub value_parameter : ShapeTree → Parameter
+value_parameter (SetOf base) = parameter.Set
+value_parameter (ArrayOf index component) = parameter.Structure (counted_words (words_of (ArrayOf index component)))
+value_parameter (RecordOf fields) = parameter.Structure (counted_words (words_of (RecordOf fields)))
+value_parameter tree = parameter.Scalar
+
+abbrev pub parameter_of : Formal → Parameter
+parameter_of p = if p.by_place then parameter.ByPlace else value_parameter p.shape
+
+abbrev pub locals_words : List Local → ℕ
+locals_words [] = 0
+locals_words (l ∷ ls) = words_of l.shape + locals_words ls
+
+abbrev pub has_result : Option ShapeTree → Bool
+has_result None = false
+has_result (Some tree) = true
+
+-- its level, its parameters, whether it has a result, and the words of its variables
+abbrev pub routine_form : Head → RoutineForm
+routine_form h = record { level = h.level; parameters = map parameter_of h.heading.parameters; function = has_result h.heading.result; local_words = counted_words (locals_words h.locals) }
+
+-- the program alone has level 0
+abbrev pub form_at : ℕ → Head → BlockForm
+form_at zero h = ProgramBlock
+form_at (suc n) h = RoutineBlock (routine_form h)
+
+abbrev pub head_form : Head → BlockForm
+head_form h = form_at h.level h

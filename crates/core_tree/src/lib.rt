@@ -7,6 +7,7 @@
 
 mod charges;
 mod form;
+mod laws;
 mod limits;
 mod lookups;
 mod op;
@@ -16,6 +17,7 @@ mod table;
 
 pub use charges::{charge, expr_charge, expr_need, need};
 pub use form::{CaseLabel, CoreForm, ForLoop, Parameter, RoutineForm, StatementForm, StatementOp};
+pub use laws::{machine_tables, program_links, sums_of_forms};
 pub use limits::{MAX_COUNTED_CHARGE, MAX_COUNTED_WORDS};
 pub use lookups::are_apart;
 pub use op::{
