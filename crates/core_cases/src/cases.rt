@@ -1,6 +1,9 @@
 //! What each call answers on the program.
 use crate::build::{core, number, sum};
-use core_tree::{Core, LinkEnd, Shape, charge, expr_charge, expr_need, need};
+use core_tree::{
+    Core, LinkEnd, Op, SetOp, Shape, StatementOp, WordOp, charge, counted_sum, expr_charge,
+    expr_need, need, op_charge, op_need, op_width, own_holds, statement_charge,
+};
 use dice_base::{LinkTo, Name, NoMemory};
 use frame_layout::{Layout, LayoutFault, layout};
 use std::alloc::Global;
@@ -45,6 +48,24 @@ fn sums_of_expressions(rt: HostRuntime) -> Result<(), Fail> {
         expr_need(&sum) == 3,
     ];
     assert!(rt; is == [true; 4]);
+    Ok(())
+}
+
+#[test]
+fn rows_of_the_table(rt: HostRuntime) -> Result<(), Fail> {
+    let alloc = rt.alloc();
+    let core = core(alloc, 10)?;
+    let is = [
+        op_charge(&Op::Word(WordOp::Modulo)) == 32,
+        op_width(&Op::Set(SetOp::Union)) == 8,
+        op_need(&Op::Structure, 5) == 1,
+        statement_charge(&StatementOp::Dispose(2)) == 16,
+        own_holds(&StatementOp::With, 3) == 3,
+        counted_sum(999_999, 2) == 1_000_000,
+        core.shapes.words(Shape::Char) == 1,
+        core.shapes.words(Shape::Written(1)) == 10,
+    ];
+    assert!(rt; is == [true; 8]);
     Ok(())
 }
 

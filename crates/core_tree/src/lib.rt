@@ -6,16 +6,19 @@
 #![tactic(auto)]
 
 mod charges;
+mod counting;
 mod form;
 mod laws;
 mod limits;
 mod lookups;
 mod op;
 mod program;
+mod rows;
 mod shape;
 mod table;
 
 pub use charges::{charge, expr_charge, expr_need, need};
+pub use counting::counted_sum;
 pub use form::{CaseLabel, CoreForm, ForLoop, Parameter, RoutineForm, StatementForm, StatementOp};
 pub use laws::{machine_tables, program_links, sums_of_forms};
 pub use limits::{MAX_COUNTED_CHARGE, MAX_COUNTED_WORDS};
@@ -28,5 +31,6 @@ pub use program::{
     Core, CoreBlock, CoreHeading, CoreLabel, CoreRoutine, CoreVariable, DomainShape,
     HeadingParameter, LinkEnd,
 };
+pub use rows::{op_charge, op_need, op_width, own_holds, statement_charge};
 pub use shape::{Domain, FieldShape, Shape, ShapeEntry, WrittenShape};
 pub use table::ShapeTable;

@@ -72,7 +72,7 @@ impl ShapeTable {
     {
         let mut words = 0;
         for field in fields {
-            words = counted_sum(words, self.words(field.shape));
+            words = words_sum(words, self.words(field.shape));
         }
         words
     }
@@ -104,7 +104,7 @@ fn written_values(shape: &WrittenShape) -> u64
     }
 }
 
-fn counted_sum(first: u32, second: u32) -> u32
+fn words_sum(first: u32, second: u32) -> u32
     requires first_counted { first ≤ MAX_COUNTED_WORDS }
     requires second_counted { second ≤ MAX_COUNTED_WORDS }
     ensures { result ≡ counted_words (first + second) }

@@ -101,11 +101,11 @@ fn put(
         offset: frame.words,
         by_place,
     })?;
-    frame.words = counted_sum(frame.words, words);
+    frame.words = words_sum(frame.words, words);
     Ok(())
 }
 
-fn counted_sum(first: u32, second: u32) -> u32
+fn words_sum(first: u32, second: u32) -> u32
     ensures { result ≡ counted_words (first + second) }
 {
     let sum = u64::from(first) + u64::from(second);
