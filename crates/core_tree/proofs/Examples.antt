@@ -22,7 +22,7 @@ use Rattle.core_tree.specs.declared.shape.Shape.TheVariants as shape
 use Rattle.core_tree.specs.declared.shape.ShapeEntry.{ShapeEntry}
 use Rattle.core_tree.specs.declared.shape.WrittenShape.TheVariants as entry
 use Rattle.core_tree.specs.Charge.{charge_of, expr_need, holds_of, need_of}
-use Rattle.core_tree.specs.Control.{core_rows, named}
+use Rattle.core_tree.specs.Control.{core_rows, name_of}
 use Rattle.core_tree.specs.Plain.{head_form, Expr, Operation, NoMore, And, exprs_of, Form, ProgramBlock, RoutineBlock, StatementBlock, Statement, Stmt, Statements, Last, Then, Head, Routine, Block, NoRoutine, Also}
 use Rattle.core_tree.specs.Shapes.{Integer, Subrange, ArrayOf, trees_of, words_of}
 use Rattle.core_tree.specs.Views.{program_end}
@@ -104,7 +104,7 @@ range_need : expr_need (Operation (op.Set set.IncludeRange) (exprs_of (two (op.S
 range_need = refl
 
 -- p(1, 2): the return address below two arguments
-call_need : need_of (StatementBlock (form stmt.Call (Operation (op.Call (record { routine = named 2; scope = scope.Program; function = false })) (exprs_of (one (op.Argument integers) (number 1) ∷ one (op.Argument integers) (number 2) ∷ [])) ∷ []))) ≡ 3
+call_need : need_of (StatementBlock (form stmt.Call (Operation (op.Call (record { routine = name_of 2; scope = scope.Program; function = false })) (exprs_of (one (op.Argument integers) (number 1) ∷ one (op.Argument integers) (number 2) ∷ [])) ∷ []))) ≡ 3
 call_need = refl
 
 abbrev hold : ℕ → Expr → Expr
@@ -158,13 +158,13 @@ loop_order = refl
 
 -- after the last statement of the body comes the `while`, after the last of the program its end
 loop_next : map (λ r. r.next) (core_rows loop_program) ≡
-    None ∷ Some (link.Gate (named 5)) ∷ Some (link.Gate (named 6)) ∷ Some (link.Gate (named 10)) ∷ Some (link.Gate (named 9)) ∷ Some (link.Gate (named 6)) ∷ Some link.Finish ∷ []
+    None ∷ Some (link.Gate (name_of 5)) ∷ Some (link.Gate (name_of 6)) ∷ Some (link.Gate (name_of 10)) ∷ Some (link.Gate (name_of 9)) ∷ Some (link.Gate (name_of 6)) ∷ Some link.Finish ∷ []
 loop_next = refl
 
-loop_begin : program_end loop_program 1 (to.Child 0) ≡ Some (link.Gate (named 4))
+loop_begin : program_end loop_program 1 (to.Child 0) ≡ Some (link.Gate (name_of 4))
 loop_begin = refl
 
-loop_body : program_end loop_program 6 (to.Child 0) ≡ Some (link.Gate (named 8))
+loop_body : program_end loop_program 6 (to.Child 0) ≡ Some (link.Gate (name_of 8))
 loop_body = refl
 
 abbrev turns : ForLoop
@@ -183,7 +183,7 @@ nested_program = Block (head 1 0)
     around 6 test (
     single 7 (form (stmt.Goto 9) []) ∷
     around 8 (form stmt.Repeat (number 1 ∷ [])) (Stmt 9 (Some 9) (Some (form stmt.Empty [])) Last ∷ single 10 (form stmt.Empty []) ∷ []) ∷ []) ∷ []) ∷ []) ∷ []))) NoRoutine)
-    (compound 11 (single 12 (form stmt.Call (leaf (op.Call (record { routine = named 2; scope = scope.Program; function = false })) ∷ [])) ∷ []))
+    (compound 11 (single 12 (form stmt.Call (leaf (op.Call (record { routine = name_of 2; scope = scope.Program; function = false })) ∷ [])) ∷ []))
 
 -- the routine's block stands before the statements of the program
 nested_order : map (λ r. r.name) (core_rows nested_program) ≡ 1 ∷ 2 ∷ 4 ∷ 5 ∷ 6 ∷ 7 ∷ 8 ∷ 9 ∷ 10 ∷ 12 ∷ []
@@ -192,8 +192,8 @@ nested_order = refl
 -- after a `for` the routine is left; after its body comes its step, after that of a `with` its end, after each branch what
 -- comes after the `if`, and after the last statement of a `repeat` the `repeat`
 nested_next : map (λ r. r.next) (core_rows nested_program) ≡
-    None ∷ None ∷ Some (link.Leave (named 2)) ∷ Some (link.Step (named 4)) ∷ Some (link.End (named 5)) ∷ Some (link.End (named 5)) ∷ Some (link.End (named 5))
-    ∷ Some (link.Gate (named 10)) ∷ Some (link.Gate (named 8)) ∷ Some link.Finish ∷ []
+    None ∷ None ∷ Some (link.Leave (name_of 2)) ∷ Some (link.Step (name_of 4)) ∷ Some (link.End (name_of 5)) ∷ Some (link.End (name_of 5)) ∷ Some (link.End (name_of 5))
+    ∷ Some (link.Gate (name_of 10)) ∷ Some (link.Gate (name_of 8)) ∷ Some link.Finish ∷ []
 nested_next = refl
 
 nested_around : map (λ r. r.around) (core_rows nested_program) ≡
@@ -201,16 +201,16 @@ nested_around : map (λ r. r.around) (core_rows nested_program) ≡
 nested_around = refl
 
 -- a `repeat` begins at its first statement
-nested_else : program_end nested_program 6 (to.Child 1) ≡ Some (link.Gate (named 9))
+nested_else : program_end nested_program 6 (to.Child 1) ≡ Some (link.Gate (name_of 9))
 nested_else = refl
 
-nested_goto : program_end nested_program 7 (to.Label 9) ≡ Some (link.Gate (named 9))
+nested_goto : program_end nested_program 7 (to.Label 9) ≡ Some (link.Gate (name_of 9))
 nested_goto = refl
 
-nested_call : program_end nested_program 12 (to.Routine (named 2)) ≡ Some (link.Block (named 2))
+nested_call : program_end nested_program 12 (to.Routine (name_of 2)) ≡ Some (link.Block (name_of 2))
 nested_call = refl
 
-no_call : program_end nested_program 12 (to.Routine (named 1)) ≡ None
+no_call : program_end nested_program 12 (to.Routine (name_of 1)) ≡ None
 no_call = refl
 
 -- function f(n: integer; var k: t): integer with a variable of type t, an array of ten integers

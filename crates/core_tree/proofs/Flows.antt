@@ -5,10 +5,10 @@ use Rattle.std.proofs.lemmas.List.{map-append}
 use Rattle.core_tree.specs.declared.form.StatementOp.{StatementOp}
 use Rattle.core_tree.specs.declared.form.StatementOp.TheVariants as stmt
 use Rattle.core_tree.specs.declared.program.LinkEnd.{LinkEnd}
-use Rattle.core_tree.specs.Control.{Continuation, Enclosing, after_body, after_in, after_inner, around_in, around_inner, core_row, core_rows, entries_of, first_entry, head_row, in_sequence, inner_rows, link_flow, link_to, machine_flow, machine_rows, nearest, next_in, op_in, own_row, routine_rows, routines_rows, statement_rows}
+use Rattle.core_tree.specs.Control.{Continuation, Enclosing, after_body, after_in, after_inner, around_in, around_inner, core_row, core_rows, entries_of, first_entry, head_row, in_sequence, inner_rows, link_flow, link_to, machine_flow, machine_rows, nearest_name, next_in, op_in, own_row, routine_rows, routines_rows, statement_rows}
 use Rattle.core_tree.specs.Plain.{Form, BlockForm, ProgramBlock, RoutineBlock, StatementBlock, Statement, Stmt, Statements, Last, Then, head_form, Routine, Block, Routines, NoRoutine, Also}
 
-nearest-append : (xs : List Enclosing) (x : Enclosing) → nearest (xs ++ x ∷ []) ≡ Some x.name
+nearest-append : (xs : List Enclosing) (x : Enclosing) → nearest_name (xs ++ x ∷ []) ≡ Some x.name
 nearest-append [] x = refl
 nearest-append (y ∷ []) x = refl
 nearest-append (y ∷ (z ∷ zs)) x = nearest-append (z ∷ zs) x
@@ -69,7 +69,7 @@ after_agrees : (f : Option Form) (n body : ℕ) (a : C) → link_to (after_in C 
 after_agrees None n body a = refl
 after_agrees (Some f) n body a = after_by f f.op n body a
 
-around_by : (f : Form) (o : StatementOp) (n : ℕ) (b : E) → nearest (around_inner C E machine_flow f o n b) ≡ around_inner L N link_flow f o n (nearest b)
+around_by : (f : Form) (o : StatementOp) (n : ℕ) (b : E) → nearest_name (around_inner C E machine_flow f o n b) ≡ around_inner L N link_flow f o n (nearest_name b)
 around_by f (stmt.For loop) n b = nearest-append b (record { name = n; form = f })
 around_by f stmt.With n b = nearest-append b (record { name = n; form = f })
 around_by f stmt.Repeat n b = refl
@@ -85,31 +85,31 @@ around_by f (stmt.Write line) n b = refl
 around_by f (stmt.New w) n b = refl
 around_by f (stmt.Dispose w) n b = refl
 
-around_agrees : (f : Option Form) (n : ℕ) (b : E) → nearest (around_in C E machine_flow f n b) ≡ around_in L N link_flow f n (nearest b)
+around_agrees : (f : Option Form) (n : ℕ) (b : E) → nearest_name (around_in C E machine_flow f n b) ≡ around_in L N link_flow f n (nearest_name b)
 around_agrees None n b = refl
 around_agrees (Some f) n b = around_by f f.op n b
 
-own_agrees : (f : Option Form) (n r : ℕ) (entries : List ℕ) (a : C) (b : E) → map core_row (own_row C E machine_flow f n r entries a b) ≡ own_row L N link_flow f n r entries (link_to a) (nearest b)
+own_agrees : (f : Option Form) (n r : ℕ) (entries : List ℕ) (a : C) (b : E) → map core_row (own_row C E machine_flow f n r entries a b) ≡ own_row L N link_flow f n r entries (link_to a) (nearest_name b)
 own_agrees None n r entries a b = refl
 own_agrees (Some f) n r entries a b = refl
 
 mutual
-  statement_agrees : (s : Statement) (r : ℕ) (a : C) (b : E) → map core_row (statement_rows C E machine_flow s r a b) ≡ statement_rows L N link_flow s r (link_to a) (nearest b)
+  statement_agrees : (s : Statement) (r : ℕ) (a : C) (b : E) → map core_row (statement_rows C E machine_flow s r a b) ≡ statement_rows L N link_flow s r (link_to a) (nearest_name b)
   statement_agrees (Stmt n l f ss) r a b =
       map-append core_row (own_row C E machine_flow f n r (entries_of ss) a b) (inner_rows C E machine_flow ss f r (after_in C E machine_flow f n (first_entry ss) a) (around_in C E machine_flow f n b))
       ∙ (ap (λ xs. xs ++ map core_row (inner_rows C E machine_flow ss f r (after_in C E machine_flow f n (first_entry ss) a) (around_in C E machine_flow f n b))) (own_agrees f n r (entries_of ss) a b)
-      ∙ ap (λ xs. own_row L N link_flow f n r (entries_of ss) (link_to a) (nearest b) ++ xs)
+      ∙ ap (λ xs. own_row L N link_flow f n r (entries_of ss) (link_to a) (nearest_name b) ++ xs)
       (inner_agrees ss f r (after_in C E machine_flow f n (first_entry ss) a) (around_in C E machine_flow f n b)
-      ∙ (ap (λ x. inner_rows L N link_flow ss f r x (nearest (around_in C E machine_flow f n b))) (after_agrees f n (first_entry ss) a)
+      ∙ (ap (λ x. inner_rows L N link_flow ss f r x (nearest_name (around_in C E machine_flow f n b))) (after_agrees f n (first_entry ss) a)
       ∙ ap (λ y. inner_rows L N link_flow ss f r (after_in L N link_flow f n (first_entry ss) (link_to a)) y) (around_agrees f n b))))
 
-  inner_agrees : (ss : Statements) (f : Option Form) (r : ℕ) (a : C) (b : E) → map core_row (inner_rows C E machine_flow ss f r a b) ≡ inner_rows L N link_flow ss f r (link_to a) (nearest b)
+  inner_agrees : (ss : Statements) (f : Option Form) (r : ℕ) (a : C) (b : E) → map core_row (inner_rows C E machine_flow ss f r a b) ≡ inner_rows L N link_flow ss f r (link_to a) (nearest_name b)
   inner_agrees Last f r a b = refl
   inner_agrees (Then s ss) f r a b =
       map-append core_row (statement_rows C E machine_flow s r (in_sequence C E machine_flow f (op_in f) ss a) b) (inner_rows C E machine_flow ss f r a b)
       ∙ (ap (λ xs. xs ++ map core_row (inner_rows C E machine_flow ss f r a b))
-      (statement_agrees s r (in_sequence C E machine_flow f (op_in f) ss a) b ∙ ap (λ x. statement_rows L N link_flow s r x (nearest b)) (sequence_agrees f ss a))
-      ∙ ap (λ xs. statement_rows L N link_flow s r (in_sequence L N link_flow f (op_in f) ss (link_to a)) (nearest b) ++ xs) (inner_agrees ss f r a b))
+      (statement_agrees s r (in_sequence C E machine_flow f (op_in f) ss a) b ∙ ap (λ x. statement_rows L N link_flow s r x (nearest_name b)) (sequence_agrees f ss a))
+      ∙ ap (λ xs. statement_rows L N link_flow s r (in_sequence L N link_flow f (op_in f) ss (link_to a)) (nearest_name b) ++ xs) (inner_agrees ss f r a b))
 
 body_agrees : (form : BlockForm) (n : ℕ) → link_to (after_body C E machine_flow form n) ≡ after_body L N link_flow form n
 body_agrees ProgramBlock n = refl

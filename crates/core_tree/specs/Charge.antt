@@ -25,8 +25,8 @@ use Rattle.core_tree.specs.declared.limits.TheConstants.{MAX_COUNTED_CHARGE}
 use Rattle.core_tree.specs.Plain.{Expr, Operation, Exprs, NoMore, And, BlockForm, ProgramBlock, RoutineBlock, StatementBlock}
 
 -- sums count up to this and no further
-abbrev pub counted : ℕ → ℕ
-counted n = min MAX_COUNTED_CHARGE n
+abbrev pub counted_charge : ℕ → ℕ
+counted_charge n = min MAX_COUNTED_CHARGE n
 
 -- ---- charges
 

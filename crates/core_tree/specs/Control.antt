@@ -99,13 +99,21 @@ module _ (A B : Type 0) (flow : ControlFlow A B) where
 
   abbrev pub own_row : Option Form → ℕ → ℕ → List ℕ → A → B → List (Row A B)
   own_row None n r entries after around = []
-  own_row (Some f) n r entries after around = record { name = n; routine = r; around = around; next = Some after; entries = entries; form = StatementBlock f } ∷ []
+  own_row (Some f) n r entries after around = record {
+    name = n;
+    routine = r;
+    around = around;
+    next = Some after;
+    entries = entries;
+    form = StatementBlock f;
+  } ∷ []
 
   -- the blocks of a statement of a routine, in the order of the text
   abbrev mutual
     pub statement_rows : Statement → ℕ → A → B → List (Row A B)
     statement_rows (Stmt n l f ss) r after around =
-        own_row f n r (entries_of ss) after around ++ inner_rows ss f r (after_in f n (first_entry ss) after) (around_in f n around)
+        own_row f n r (entries_of ss) after around
+        ++ inner_rows ss f r (after_in f n (first_entry ss) after) (around_in f n around)
 
     pub inner_rows : Statements → Option Form → ℕ → A → B → List (Row A B)
     inner_rows Last f r after around = []
@@ -118,14 +126,22 @@ module _ (A B : Type 0) (flow : ControlFlow A B) where
   after_body form n = flow.finish
 
   abbrev pub head_row : ℕ → BlockForm → Statement → Row A B
-  head_row n form body = record { name = n; routine = n; around = flow.outermost; next = None; entries = entry_of body ∷ []; form = form }
+  head_row n form body = record {
+    name = n;
+    routine = n;
+    around = flow.outermost;
+    next = None;
+    entries = entry_of body ∷ [];
+    form = form;
+  }
 
   -- the blocks of the program or of a routine, in the order of the text: its own, those of the routines in it, and those of
   -- its body
   abbrev mutual
     pub routine_rows : Routine → List (Row A B)
     routine_rows (Block head inner body) =
-        head_row head.name (head_form head) body ∷ (routines_rows inner ++ statement_rows body head.name (after_body (head_form head) head.name) flow.outermost)
+        head_row head.name (head_form head) body
+        ∷ (routines_rows inner ++ statement_rows body head.name (after_body (head_form head) head.name) flow.outermost)
 
     pub routines_rows : Routines → List (Row A B)
     routines_rows NoRoutine = []
@@ -133,16 +149,16 @@ module _ (A B : Type 0) (flow : ControlFlow A B) where
 
 -- ---- the table of a core
 
-abbrev pub named : ℕ → Name
-named n = record { 0 = n }
+abbrev pub name_of : ℕ → Name
+name_of n = record { 0 = n }
 
 -- the nearest `for` or `with` around, and the end of a link
 abbrev pub link_flow : ControlFlow LinkEnd (Option ℕ)
 link_flow = record {
-  gate = λ n. link.Gate (named n);
-  step = λ n f body after. link.Step (named n);
-  end_with = λ n after. link.End (named n);
-  leave = λ n. link.Leave (named n);
+  gate = λ n. link.Gate (name_of n);
+  step = λ n f body after. link.Step (name_of n);
+  end_with = λ n after. link.End (name_of n);
+  leave = λ n. link.Leave (name_of n);
   finish = link.Finish;
   outermost = None;
   inside = λ n f around. Some n;
@@ -190,19 +206,26 @@ machine_rows program = routine_rows Continuation (List Enclosing) machine_flow p
 
 -- what a core keeps of it: the first that comes, and the nearest around
 abbrev pub link_to : Continuation → LinkEnd
-link_to (ToGate n) = link.Gate (named n)
-link_to (ToStep n f body otherwise) = link.Step (named n)
-link_to (ToEnd n otherwise) = link.End (named n)
-link_to (ToLeave n) = link.Leave (named n)
+link_to (ToGate n) = link.Gate (name_of n)
+link_to (ToStep n f body otherwise) = link.Step (name_of n)
+link_to (ToEnd n otherwise) = link.End (name_of n)
+link_to (ToLeave n) = link.Leave (name_of n)
 link_to ToFinish = link.Finish
 
-abbrev pub nearest : List Enclosing → Option ℕ
-nearest [] = None
-nearest (x ∷ []) = Some x.name
-nearest (x ∷ (y ∷ ys)) = nearest (y ∷ ys)
+abbrev pub nearest_name : List Enclosing → Option ℕ
+nearest_name [] = None
+nearest_name (x ∷ []) = Some x.name
+nearest_name (x ∷ (y ∷ ys)) = nearest_name (y ∷ ys)
 
 abbrev pub core_row : MachineRow → CoreRow
-core_row r = record { name = r.name; routine = r.routine; around = nearest r.around; next = option_map link_to r.next; entries = r.entries; form = r.form }
+core_row r = record {
+  name = r.name;
+  routine = r.routine;
+  around = nearest_name r.around;
+  next = option_map link_to r.next;
+  entries = r.entries;
+  form = r.form;
+}
 
 -- ---- labels
 
@@ -211,13 +234,13 @@ pub record Label : Type 0 where
   pub label : ℕ
   pub entry : ℕ
 
-abbrev pub labelled : Option ℕ → ℕ → List Label
-labelled None entry = []
-labelled (Some l) entry = record { label = l; entry = entry } ∷ []
+abbrev pub label_list : Option ℕ → ℕ → List Label
+label_list None entry = []
+label_list (Some l) entry = record { label = l; entry = entry } ∷ []
 
 abbrev mutual
   pub labels_of : Statement → List Label
-  labels_of (Stmt n l f ss) = labelled l (entry_by f (op_in f) n (first_entry ss)) ++ labels_in ss
+  labels_of (Stmt n l f ss) = label_list l (entry_by f (op_in f) n (first_entry ss)) ++ labels_in ss
 
   pub labels_in : Statements → List Label
   labels_in Last = []
@@ -254,7 +277,7 @@ routine_row_of routines n = find (λ r. r.head.name == n) routines
 
 -- where a statement with a label begins
 abbrev pub label_end : List Label → ℕ → Option LinkEnd
-label_end labels l = option_map (λ x. link.Gate (named x.entry)) (find (λ x. x.label == l) labels)
+label_end labels l = option_map (λ x. link.Gate (name_of x.entry)) (find (λ x. x.label == l) labels)
 
 abbrev pub labels_by : Option RoutineRow → List Label
 labels_by None = []
@@ -262,7 +285,7 @@ labels_by (Some r) = r.labels
 
 -- a routine is called, the program and a statement are not
 abbrev pub form_end : ℕ → BlockForm → Option LinkEnd
-form_end n (RoutineBlock f) = Some (link.Block (named n))
+form_end n (RoutineBlock f) = Some (link.Block (name_of n))
 form_end n form = None
 
 abbrev pub call_end : ℕ → Option CoreRow → Option LinkEnd
@@ -272,7 +295,7 @@ call_end n (Some row) = form_end n row.form
 abbrev pub end_by : List CoreRow → List RoutineRow → Option CoreRow → LinkTo → Option LinkEnd
 end_by rows routines None way = None
 end_by rows routines (Some row) to.Next = row.next
-end_by rows routines (Some row) (to.Child k) = option_map (λ n. link.Gate (named n)) (slice_get row.entries k)
+end_by rows routines (Some row) (to.Child k) = option_map (λ n. link.Gate (name_of n)) (slice_get row.entries k)
 end_by rows routines (Some row) (to.Label l) = label_end (labels_by (routine_row_of routines row.routine)) l
 end_by rows routines (Some row) (to.Routine r) = call_end r.0 (row_of rows r.0)
 

@@ -88,11 +88,6 @@ part_at NoMore k = None
 part_at (And e es) zero = Some e
 part_at (And e es) (suc k) = part_at es k
 
--- one list of parts after another
-abbrev pub joined : Exprs → Exprs → Exprs
-joined NoMore fs = fs
-joined (And e es) fs = And e (joined es fs)
-
 abbrev pub exprs_of : List Expr → Exprs
 exprs_of [] = NoMore
 exprs_of (e ∷ es) = And e (exprs_of es)
@@ -119,7 +114,12 @@ has_result (Some tree) = true
 
 -- its level, its parameters, whether it has a result, and the words of its variables
 abbrev pub routine_form : Head → RoutineForm
-routine_form h = record { level = h.level; parameters = map parameter_of h.heading.parameters; function = has_result h.heading.result; local_words = counted_words (locals_words h.locals) }
+routine_form h = record {
+  level = h.level;
+  parameters = map parameter_of h.heading.parameters;
+  function = has_result h.heading.result;
+  local_words = counted_words (locals_words h.locals);
+}
 
 -- the program alone has level 0
 abbrev pub form_at : ℕ → Head → BlockForm

@@ -92,6 +92,10 @@ abbrev mutual
 abbrev pub counted_words : ℕ → ℕ
 counted_words n = min MAX_COUNTED_WORDS n
 
+-- one more entry of a table
+abbrev pub next_entry : List ShapeEntry → WrittenShape → ShapeEntry
+next_entry entries s = record { shape = s; words = counted_words (words_of (written_tree (trees_of entries) s)) }
+
 -- the words of a type over a table
 abbrev pub table_words : List ShapeEntry → Shape → ℕ
 table_words entries s = words_of (tree_of (trees_of entries) s)

@@ -21,6 +21,7 @@ use Rattle.core_tree.specs.Plain.{Expr, Operation, Exprs, NoMore, And, exprs_of,
 
 -- ---- expressions
 
+-- one operation, whose parts are plain trees already
 abbrev pub in_expr : CoreExpr-F Expr → Expr
 in_expr x = Operation x.op (exprs_of x.parts)
 
@@ -69,11 +70,18 @@ form_over trees headings (block.Statement f) = StatementBlock (record {
   headings = map headings (callees_in (parts_in f));
 })
 
--- a form by itself, without shapes and headings: sums need none
+-- a form by itself, without shapes and headings. Sums need none
 abbrev pub bare_form : CoreForm → BlockForm
 bare_form block.Program = ProgramBlock
 bare_form (block.Routine r) = RoutineBlock r
-bare_form (block.Statement f) = StatementBlock (record { level = f.level; holds = f.holds; op = f.op; parts = parts_in f; shapes = []; headings = [] })
+bare_form (block.Statement f) = StatementBlock (record {
+  level = f.level;
+  holds = f.holds;
+  op = f.op;
+  parts = parts_in f;
+  shapes = [];
+  headings = [];
+})
 
 -- ---- a core as the table of a program
 
@@ -117,18 +125,20 @@ block_row trees routines b = record {
 abbrev pub block_rows : List ShapeEntry → List CoreRoutine → List CoreBlock → List CoreRow
 block_rows entries routines blocks = map (block_row (trees_of entries) routines) blocks
 
-abbrev pub routine_rows : List ShapeEntry → List CoreRoutine → List RoutineRow
-routine_rows entries routines = map (routine_row (trees_of entries)) routines
+abbrev pub listed_routines : List ShapeEntry → List CoreRoutine → List RoutineRow
+listed_routines entries routines = map (routine_row (trees_of entries)) routines
 
 -- where a link leads in a core
 abbrev pub core_end : List ShapeEntry → List CoreRoutine → List CoreBlock → ℕ → LinkTo → Option LinkEnd
-core_end entries routines blocks n way = end_of (block_rows entries routines blocks) (routine_rows entries routines) n way
+core_end entries routines blocks n way =
+    end_of (block_rows entries routines blocks) (listed_routines entries routines) n way
 
 -- these types, routines and blocks are those of a program: the table of its blocks, and the list of its routines. Then a link
 -- leads where `program_end` says
-pub record IsTableOf (program : Routine) (entries : List ShapeEntry) (routines : List CoreRoutine) (blocks : List CoreBlock) : Type 0 where
+pub record IsTableOf (program : Routine) (entries : List ShapeEntry) (routines : List CoreRoutine) (blocks : List CoreBlock) :
+    Type 0 where
   pub blocks_are : block_rows entries routines blocks ≡ core_rows program
-  pub routines_are : routine_rows entries routines ≡ core_routines program
+  pub routines_are : listed_routines entries routines ≡ core_routines program
 
 -- where a link leads in a program
 abbrev pub program_end : Routine → ℕ → LinkTo → Option LinkEnd

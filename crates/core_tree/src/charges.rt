@@ -1,7 +1,7 @@
 //! The sums of a form: the words of code that its block is given, and the words of temporaries and the holds that it takes
 //! at most.
 ghost use Rattle.std.specs.Prelude.{◌≡◌, ◌≤◌, ◌+◌, max, map, length};
-ghost use Rattle.core_tree.specs.Charge.{charge_of, counted, expr_charge, expr_need, exprs_charge, exprs_need, holds_of, need_of, op_width, own_holds, parameters_charge, statement_charge, width, widths};
+ghost use Rattle.core_tree.specs.Charge.{charge_of, counted_charge, expr_charge, expr_need, exprs_charge, exprs_need, holds_of, need_of, op_width, own_holds, parameters_charge, statement_charge, width, widths};
 ghost use Rattle.core_tree.specs.Plain.{exprs_of};
 ghost use Rattle.core_tree.specs.Views.{bare_form, expr_of};
 
@@ -12,7 +12,7 @@ use crate::{CoreExpr, CoreForm, Parameter, StatementForm};
 
 /// The words of code of a block of this form, counted up to 1,000,000. Takes no memory.
 pub fn charge(form: &CoreForm) -> u32
-    ensures words { result ≡ counted (charge_of (bare_form form.now)) }
+    ensures words { result ≡ counted_charge (charge_of (bare_form form.now)) }
 {
     match form {
         CoreForm::Program => 32,
@@ -26,7 +26,7 @@ pub fn charge(form: &CoreForm) -> u32
 
 /// The words of temporaries that a block of this form takes at most, counted up to 1,000,000. Takes no memory.
 pub fn need(form: &CoreForm) -> u32
-    ensures words { result ≡ counted (need_of (bare_form form.now)) }
+    ensures words { result ≡ counted_charge (need_of (bare_form form.now)) }
 {
     match form {
         CoreForm::Program => 0,
@@ -39,7 +39,7 @@ pub fn need(form: &CoreForm) -> u32
 #[cycle(expr_charge)]
 #[tactic(auto, using(crate::proofs::Sums::counted_sum, crate::proofs::Layers::charge_layer))]
 pub fn expr_charge(expr: &CoreExpr) -> u32
-    ensures words { result ≡ counted (expr_charge (expr_of expr.now)) }
+    ensures words { result ≡ counted_charge (expr_charge (expr_of expr.now)) }
 {
     counted_sum(op_charge(&expr.op), exprs_charge(expr.parts.as_slice()))
 }
@@ -47,7 +47,7 @@ pub fn expr_charge(expr: &CoreExpr) -> u32
 #[cycle(expr_charge)]
 #[tactic(auto, using(crate::proofs::Sums::counted_sum))]
 fn exprs_charge(parts: &[CoreExpr]) -> u32
-    ensures { result ≡ counted (exprs_charge (exprs_of (map expr_of parts.now))) }
+    ensures { result ≡ counted_charge (exprs_charge (exprs_of (map expr_of parts.now))) }
 {
     let mut words = 0;
     for part in parts {
@@ -61,7 +61,7 @@ fn exprs_charge(parts: &[CoreExpr]) -> u32
 #[cycle(expr_need)]
 #[tactic(auto, using(crate::proofs::Layers::need_layer))]
 pub fn expr_need(expr: &CoreExpr) -> u32
-    ensures words { result ≡ counted (expr_need (expr_of expr.now)) }
+    ensures words { result ≡ counted_charge (expr_need (expr_of expr.now)) }
 {
     let parts = expr.parts.as_slice();
     op_need(&expr.op, parts_width(parts)).max(exprs_need(parts))
@@ -70,7 +70,7 @@ pub fn expr_need(expr: &CoreExpr) -> u32
 // The temporaries of parts, each of which is evaluated below the values of those before it.
 #[cycle(expr_need)]
 fn exprs_need(parts: &[CoreExpr]) -> u32
-    ensures { result ≡ counted (exprs_need (exprs_of (map expr_of parts.now)) 0) }
+    ensures { result ≡ counted_charge (exprs_need (exprs_of (map expr_of parts.now)) 0) }
 {
     let mut below = 0;
     let mut most: u32 = 0;
@@ -84,7 +84,7 @@ fn exprs_need(parts: &[CoreExpr]) -> u32
 // The words of the values of parts.
 #[tactic(auto, using(crate::proofs::Sums::counted_sum))]
 fn parts_width(parts: &[CoreExpr]) -> u32
-    ensures { result ≡ counted (widths (exprs_of (map expr_of parts.now))) }
+    ensures { result ≡ counted_charge (widths (exprs_of (map expr_of parts.now))) }
 {
     let mut words = 0;
     for part in parts {
@@ -96,7 +96,7 @@ fn parts_width(parts: &[CoreExpr]) -> u32
 /// The holds of a statement: those around it, and its own.
 #[tactic(auto, using(crate::proofs::Layers::part_count_layer))]
 pub fn form_holds(form: &CoreForm) -> u32
-    ensures { result ≡ counted (holds_of (bare_form form.now)) }
+    ensures { result ≡ counted_charge (holds_of (bare_form form.now)) }
 {
     match form {
         CoreForm::Program => 0,
@@ -106,7 +106,7 @@ pub fn form_holds(form: &CoreForm) -> u32
 }
 
 fn statement_holds(form: &StatementForm) -> u32
-    ensures { result ≡ counted (form.now.holds + own_holds form.now.op (length form.now.parts)) }
+    ensures { result ≡ counted_charge (form.now.holds + own_holds form.now.op (length form.now.parts)) }
 {
     counted_sum(
         form.holds.min(MAX_COUNTED_CHARGE),
@@ -115,7 +115,7 @@ fn statement_holds(form: &StatementForm) -> u32
 }
 
 fn statement_form_charge(form: &StatementForm) -> u32
-    ensures { result ≡ counted (statement_charge form.now.op + exprs_charge (exprs_of (map expr_of form.now.parts))) }
+    ensures { result ≡ counted_charge (statement_charge form.now.op + exprs_charge (exprs_of (map expr_of form.now.parts))) }
 {
     counted_sum(
         statement_charge(&form.op),
@@ -124,7 +124,7 @@ fn statement_form_charge(form: &StatementForm) -> u32
 }
 
 fn parameters_charge(parameters: &[Parameter]) -> u32
-    ensures { result ≡ counted (parameters_charge parameters.now) }
+    ensures { result ≡ counted_charge (parameters_charge parameters.now) }
 {
     let mut words = 0;
     for parameter in parameters {

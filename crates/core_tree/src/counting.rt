@@ -1,6 +1,6 @@
 //! Sums that stop counting at their limit.
 ghost use Rattle.std.specs.Prelude.{◌≡◌, ◌≤◌, ◌+◌};
-ghost use Rattle.core_tree.specs.Charge.{counted};
+ghost use Rattle.core_tree.specs.Charge.{counted_charge};
 
 use crate::limits::MAX_COUNTED_CHARGE;
 
@@ -8,14 +8,14 @@ use crate::limits::MAX_COUNTED_CHARGE;
 pub fn counted_sum(first: u32, second: u32) -> u32
     requires first_counted { first ≤ MAX_COUNTED_CHARGE }
     requires second_counted { second ≤ MAX_COUNTED_CHARGE }
-    ensures { result ≡ counted (first + second) }
+    ensures { result ≡ counted_charge (first + second) }
 {
     (first + second).min(MAX_COUNTED_CHARGE)
 }
 
 /// A number of things, counted up to 1,000,000.
 pub fn count(length: usize) -> u32
-    ensures { result ≡ counted length }
+    ensures { result ≡ counted_charge length }
 {
     if length < MAX_COUNTED_CHARGE as usize {
         length as u32

@@ -19,13 +19,18 @@ pub fn machine_tables()
 /// The links of a core lead where those of its program do.
 #[tactic(auto, using(crate::proofs::Ends::program_links))]
 pub fn program_links(core: &Core)
-    ensures { let c = core.now in (program : Routine) (n : ℕ) (way : LinkTo) → IsTableOf program c.shapes.entries c.routines c.blocks → core_end c.shapes.entries c.routines c.blocks n way ≡ program_end program n way }
+    ensures { let entries = core.now.shapes.entries in
+        (program : Routine) (n : ℕ) (way : LinkTo) → IsTableOf program entries core.now.routines core.now.blocks
+        → core_end entries core.now.routines core.now.blocks n way ≡ program_end program n way }
 {}
 
 /// The sums of a form need neither types nor headings.
 #[tactic(auto, using(crate::proofs::Ends::charge_over, crate::proofs::Ends::need_over, crate::proofs::Ends::holds_over))]
 pub fn sums_of_forms(form: &CoreForm)
-    ensures charges { (trees : List ShapeTree) (headings : ℕ → Heading) → charge_of (form_over trees headings form.now) ≡ charge_of (bare_form form.now) }
-    ensures needs { (trees : List ShapeTree) (headings : ℕ → Heading) → need_of (form_over trees headings form.now) ≡ need_of (bare_form form.now) }
-    ensures holds { (trees : List ShapeTree) (headings : ℕ → Heading) → holds_of (form_over trees headings form.now) ≡ holds_of (bare_form form.now) }
+    ensures charges { (trees : List ShapeTree) (headings : ℕ → Heading)
+        → charge_of (form_over trees headings form.now) ≡ charge_of (bare_form form.now) }
+    ensures needs { (trees : List ShapeTree) (headings : ℕ → Heading)
+        → need_of (form_over trees headings form.now) ≡ need_of (bare_form form.now) }
+    ensures holds { (trees : List ShapeTree) (headings : ℕ → Heading)
+        → holds_of (form_over trees headings form.now) ≡ holds_of (bare_form form.now) }
 {}

@@ -1,6 +1,6 @@
 //! A resolved program: its types, its routines and its blocks.
 ghost use Rattle.std.specs.Prelude.{◌≡◌, ◌≤◌, IsTrue, length, option_copied, option_map, slice_get};
-ghost use Rattle.core_tree.specs.Charge.{counted, holds_of};
+ghost use Rattle.core_tree.specs.Charge.{counted_charge, holds_of};
 ghost use Rattle.core_tree.specs.Lookups.{are_apart, around_by, block_of, link_of};
 ghost use Rattle.core_tree.specs.Views.{bare_form, core_end};
 
@@ -124,7 +124,7 @@ impl Core {
     /// The holds of the `for` and `with` statements around the statement of this name, and its own, counted up to
     /// 1,000,000; 0 for a routine and the program. `None` exactly where no block has the name. Takes no memory.
     pub fn holds(&self, name: Name) -> Option<u32>
-        ensures value { result ≡ option_map (λ b. counted (holds_of (bare_form b.form))) (block_of self.now.blocks name.0) }
+        ensures value { result ≡ option_map (λ b. counted_charge (holds_of (bare_form b.form))) (block_of self.now.blocks name.0) }
     {
         match self.block(name) {
             Some(block) => Some(form_holds(&block.form)),

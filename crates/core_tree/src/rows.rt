@@ -1,6 +1,6 @@
 //! The table of charges, temporaries and holds, row by row.
 ghost use Rattle.std.specs.Prelude.{◌≡◌, ◌≤◌, ◌+◌, ◌*◌};
-ghost use Rattle.core_tree.specs.Charge.{argument_charge, assign_charge, counted, effect_charge, link_charge, op_charge, op_need, op_width, own_holds, parameter_charge, place_charge, set_charge, statement_charge, variable_charge, word_charge};
+ghost use Rattle.core_tree.specs.Charge.{argument_charge, assign_charge, counted_charge, effect_charge, link_charge, op_charge, op_need, op_width, own_holds, parameter_charge, place_charge, set_charge, statement_charge, variable_charge, word_charge};
 
 use crate::counting::{count, counted_sum};
 use crate::limits::MAX_COUNTED_CHARGE;
@@ -10,7 +10,7 @@ use crate::{
 
 /// The words of code of an operation besides those of its parts, counted up to 1,000,000. Takes no memory.
 pub fn op_charge(op: &Op) -> u32
-    ensures { result ≡ counted (op_charge op.now) }
+    ensures { result ≡ counted_charge (op_charge op.now) }
 {
     match op {
         Op::Place(place) => place_charge(*place),
@@ -42,7 +42,7 @@ pub fn op_width(op: &Op) -> u32
 /// 1,000,000. Takes no memory.
 pub fn op_need(op: &Op, below: u32) -> u32
     requires { below ≤ MAX_COUNTED_CHARGE }
-    ensures { result ≡ counted (op_need op.now below) }
+    ensures { result ≡ counted_charge (op_need op.now below) }
 {
     match op {
         Op::Set(_) => 8,
@@ -53,7 +53,7 @@ pub fn op_need(op: &Op, below: u32) -> u32
 
 /// The words of code of a statement besides those of its parts, counted up to 1,000,000. Takes no memory.
 pub fn statement_charge(op: &StatementOp) -> u32
-    ensures { result ≡ counted (statement_charge op.now) }
+    ensures { result ≡ counted_charge (statement_charge op.now) }
 {
     match op {
         StatementOp::Assign(to) => assign_charge(*to),
@@ -69,7 +69,7 @@ pub fn statement_charge(op: &StatementOp) -> u32
 
 // The row of a `case` with so many constants.
 fn case_charge(constants: usize) -> u32
-    ensures { result ≡ counted (16 + 8 * constants) }
+    ensures { result ≡ counted_charge (16 + 8 * constants) }
 {
     let constants = count(constants);
     (16 + 8 * constants).min(MAX_COUNTED_CHARGE)
@@ -88,7 +88,7 @@ fn assign_charge(to: Storage) -> u32
 
 /// The holds that a statement with so many parts has for the statements in it, counted up to 1,000,000. Takes no memory.
 pub fn own_holds(op: &StatementOp, parts: usize) -> u32
-    ensures value { result ≡ counted (own_holds op.now parts) }
+    ensures value { result ≡ counted_charge (own_holds op.now parts) }
     ensures small { result ≤ MAX_COUNTED_CHARGE }
 {
     match op {

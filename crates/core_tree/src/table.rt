@@ -1,6 +1,6 @@
 //! The table of shapes.
 ghost use Rattle.std.specs.Prelude.{◌≡◌, ◌≤◌, ◌+◌, ◌*◌, [], ◌∷◌, ◌++◌, length, min, IfOk, OnOk, OnErr};
-ghost use Rattle.core_tree.specs.Shapes.{HaveWords, counted_words, fields_of, fields_words, table_words, tree_of, trees_of, values_of, words_of, written_tree, written_values};
+ghost use Rattle.core_tree.specs.Shapes.{HaveWords, counted_words, fields_of, fields_words, next_entry, table_words, tree_of, trees_of, values_of, words_of, written_tree, written_values};
 
 use crate::limits::MAX_COUNTED_WORDS;
 use crate::{FieldShape, Shape, ShapeEntry, WrittenShape};
@@ -29,7 +29,7 @@ impl ShapeTable {
     #[tactic(auto, using(crate::proofs::Tables::words_after))]
     pub fn push(&mut self, shape: WrittenShape) -> Result<Shape, NoMemory>
         ensures name { IfOk result (λ s. s ≡ Shape.Written (length self.old.entries)) }
-        ensures entry { OnOk result (self.new.entries ≡ self.old.entries ++ record { shape = shape; words = counted_words (words_of (written_tree (trees_of self.old.entries) shape)) } ∷ []) }
+        ensures entry { OnOk result (self.new.entries ≡ self.old.entries ++ next_entry self.old.entries shape ∷ []) }
         ensures kept { OnErr result (self.new.entries ≡ self.old.entries) }
     {
         let number = u32::try_from(self.entries.len()).map_err(|_| NoMemory)?;

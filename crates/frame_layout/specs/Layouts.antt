@@ -11,7 +11,12 @@ use Rattle.frame_layout.specs.declared.sizes.TheConstants.{LINKAGE_WORDS, MAX_GL
 use Rattle.frame_layout.specs.Slots.{routine_frame}
 
 abbrev pub layout_of : List ShapeEntry → CoreRoutine → Layout
-layout_of entries r = record { routine = r.name; level = r.level; words = (routine_frame entries r).words; rows = (routine_frame entries r).rows }
+layout_of entries r = record {
+  routine = r.name;
+  level = r.level;
+  words = (routine_frame entries r).words;
+  rows = (routine_frame entries r).rows;
+}
 
 -- the words of the stack that a call takes
 abbrev pub stack_charge : ℕ → ℕ
@@ -20,12 +25,16 @@ stack_charge words = counted_words (LINKAGE_WORDS + words)
 -- the first routine, in the order of the text, that takes too many
 abbrev pub frame_fault : List Layout → Option LayoutFault
 frame_fault [] = None
-frame_fault (l ∷ ls) = if nat_lt MAX_STACK_CHARGE (stack_charge l.words) then Some (fault.FrameTooLarge l.routine (stack_charge l.words)) else frame_fault ls
+frame_fault (l ∷ ls) =
+    if nat_lt MAX_STACK_CHARGE (stack_charge l.words)
+    then Some (fault.FrameTooLarge l.routine (stack_charge l.words))
+    else frame_fault ls
 
 -- the program's layout is the first, and its fault comes before those of the routines
 abbrev pub layout_fault : List Layout → Option LayoutFault
 layout_fault [] = None
-layout_fault (globals ∷ ls) = if nat_lt MAX_GLOBAL_WORDS globals.words then Some (fault.GlobalsFull globals.words) else frame_fault ls
+layout_fault (globals ∷ ls) =
+    if nat_lt MAX_GLOBAL_WORDS globals.words then Some (fault.GlobalsFull globals.words) else frame_fault ls
 
 abbrev pub layout_found : List Layout → ℕ → Option Layout
 layout_found layouts n = find (λ l. l.routine.0 == n) layouts

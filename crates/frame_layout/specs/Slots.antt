@@ -14,15 +14,18 @@ pub record Slot : Type 0 where
   pub shape : Shape
   pub by_place : Bool
 
+abbrev pub slot : List ℕ → Shape → Bool → Slot
+slot ident s by_place = record { ident = ident; shape = s; by_place = by_place }
+
 abbrev pub result_slots : List ℕ → Option Shape → List Slot
 result_slots ident None = []
-result_slots ident (Some s) = record { ident = ident; shape = s; by_place = false } ∷ []
+result_slots ident (Some s) = slot ident s false ∷ []
 
 abbrev pub parameter_slot : HeadingParameter → Slot
-parameter_slot p = record { ident = p.ident; shape = p.shape; by_place = p.by_place }
+parameter_slot p = slot p.ident p.shape p.by_place
 
 abbrev pub variable_slot : CoreVariable → Slot
-variable_slot v = record { ident = v.ident; shape = v.shape; by_place = false }
+variable_slot v = slot v.ident v.shape false
 
 -- the result, the parameters, the variables of the block
 abbrev pub slots_of : CoreRoutine → List Slot

@@ -1,7 +1,7 @@
 //! The variables of one owner, laid out one after the other.
 ghost use Rattle.std.specs.Prelude.{◌≡◌, ◌≤◌, ◌+◌, ℕ, List, min, map, IfOk, OnOk};
 ghost use Rattle.core_tree.specs.Shapes.{counted_words};
-ghost use Rattle.frame_layout.specs.Slots.{frame_after, frame_with, parameter_slot, result_slots, routine_frame, slot_words, variable_slot};
+ghost use Rattle.frame_layout.specs.Slots.{frame_after, frame_with, parameter_slot, result_slots, routine_frame, slot, slot_words, variable_slot};
 
 use crate::LayoutRow;
 use crate::frame::Frame;
@@ -91,7 +91,7 @@ fn put(
     shape: Shape,
     by_place: bool,
 ) -> Result<(), NoMemory>
-    ensures { OnOk result (frame.new ≡ frame_with shapes.now.entries frame.old (record { ident = ident.now; shape = shape; by_place = by_place })) }
+    ensures { OnOk result (frame.new ≡ frame_with shapes.now.entries frame.old (slot ident.now shape by_place)) }
 {
     let words = slot_words(shapes, shape, by_place);
     let ident = ident.copy(alloc)?;
@@ -114,7 +114,7 @@ fn words_sum(first: u32, second: u32) -> u32
 
 // A variable parameter holds a place.
 fn slot_words(shapes: &ShapeTable, shape: Shape, by_place: bool) -> u32
-    ensures { (ident : List ℕ) → result ≡ counted_words (slot_words shapes.now.entries (record { ident = ident; shape = shape; by_place = by_place })) }
+    ensures { (ident : List ℕ) → result ≡ counted_words (slot_words shapes.now.entries (slot ident shape by_place)) }
 {
     if by_place { 1 } else { shapes.words(shape) }
 }

@@ -1,5 +1,5 @@
 use Rattle.std.proofs.Common.{◌≡◌, ◌+◌, ◌≤◌, drop, map}
-use Rattle.core_tree.specs.Charge.{counted, exprs_charge}
+use Rattle.core_tree.specs.Charge.{counted_charge, exprs_charge}
 use Rattle.core_tree.specs.Plain.{exprs_of}
 use Rattle.core_tree.specs.Views.{expr_of}
 use Rattle.core_tree.proofs.charges.+expr_charge.Given as goal
@@ -7,5 +7,5 @@ use Rattle.core_tree.proofs.charges.+expr_charge.Given as goal
 abbrev pub invariant-exprs_charge-loop-part : goal.invariant-exprs_charge-loop-part
 invariant-exprs_charge-loop-part l = record {
   small : l.words ≤ 1000000;
-  rest : counted (l.words + exprs_charge (exprs_of (map expr_of (drop l.part-index l.parts)))) ≡ counted (exprs_charge (exprs_of (map expr_of l.parts)));
+  rest : counted_charge (l.words + exprs_charge (exprs_of (map expr_of (drop l.part-index l.parts)))) ≡ counted_charge (exprs_charge (exprs_of (map expr_of l.parts)));
 }
