@@ -272,7 +272,7 @@ new_block known idents = record { known = known; block = new_region idents; rows
 abbrev pub place_inside : Text → RoutineEntity → Texts → Known → At
 place_inside x f idents known =
     (with_parameters f.name f.parameters
-     (with_result_row x f (new_block known (parameter_idents f.parameters ++ idents)), CLEAN)).0
+    (with_result_row x f (new_block known (parameter_idents f.parameters ++ idents)), CLEAN)).0
 
 abbrev pub place_after : At → At → Outcome
 place_after here after = Ok (record here { known = after.known })
@@ -346,8 +346,8 @@ routine_idents (r ∷ rs) = r.heading.ident ∷ routine_idents rs
 abbrev pub known_with_layout : Owner → At → Known
 known_with_layout owner here = record (here.known) {
   layouts =
-    here.known.layouts
-    ++ record { owner = owner.name; level = owner.level; rows = here.rows; words = here.words } ∷ [];
+      here.known.layouts
+      ++ record { owner = owner.name; level = owner.level; rows = here.rows; words = here.words } ∷ [];
 }
 
 abbrev pub with_layout : Owner → At → At

@@ -59,6 +59,9 @@ module _ (body : BodyRule) where
   unfoldable pub routine_judge : Routine → RoutineJudge
   routine_judge = fold-Routine BlockJudge RoutineJudge in_block in_routine
 
--- the declarations of a program, without its bodies
+-- the declarations of a program, where bodies are left out
+abbrev pub bodyless : BodyRule
+bodyless labels s = no_body
+
 abbrev pub declarations_of : Tree → Outcome
-declarations_of p = program_walk p.files (block_judge (λ labels s. no_body) p.block)
+declarations_of p = program_walk p.files (block_judge bodyless p.block)

@@ -5,8 +5,8 @@ ghost use Rattle.check_decl.specs.Headings as spec;
 ghost use Rattle.check_rules.specs.Regions as regions;
 
 use check_rules::{
-    CLEAN, Entity, Parameter, Region, Typing, Variable, WRONG_TYPE, WrittenType, declare, domain_of,
-    entity_of, entity_through, host_of, kind_unless, least, new_region,
+    CLEAN, Entity, Parameter, Region, Typing, Variable, WRONG_TYPE, WrittenType, declare,
+    domain_of, entity_of, entity_through, host_of, kind_unless, least, new_region,
 };
 use check_types::{Typed, type_named};
 use dice_base::{Name, NoMemory, Text};
@@ -111,7 +111,13 @@ fn with_section(
         parameters,
         kind: least(kind, typed.kind),
     };
-    with_parameters(alloc, section.by_place, typed.typing, section.idents.as_slice(), walk)
+    with_parameters(
+        alloc,
+        section.by_place,
+        typed.typing,
+        section.idents.as_slice(),
+        walk,
+    )
 }
 
 fn section_type(outer: &[Region], block: &Region, own: &Region, ident: &[u8]) -> Typed
@@ -147,12 +153,7 @@ fn may_be_result(table: &[WrittenType], typing: Typing) -> bool
     }
 }
 
-fn result_of(
-    table: &[WrittenType],
-    outer: &[Region],
-    block: &Region,
-    shape: Option<&Text>,
-) -> Typed
+fn result_of(table: &[WrittenType], outer: &[Region], block: &Region, shape: Option<&Text>) -> Typed
     ensures { (result.typing, result.kind) ≡ spec.result_of table.now (outer.now ++ block.now ∷ []) (option_copied shape.entry) }
 {
     match shape {

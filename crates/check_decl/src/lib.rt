@@ -6,9 +6,7 @@
 #![tactic(auto)]
 
 mod headings;
-mod items;
 mod place;
 
 pub use headings::{HeadingWalk, JudgedHeading, heading_of, is_bare_heading, lacks_result};
-pub use items::decl_items;
 pub use place::{At, Known, Layout, Owner, Row};
