@@ -99,7 +99,13 @@ fn field_in(fields: &[FieldType], ident: &[u8]) -> Option<Typing>
     None
 }
 
-fn field_or_outer(env: &Env, ident: &[u8], packed: bool, notes: Notes, field: Option<Typing>) -> Place
+fn field_or_outer(
+    env: &Env,
+    ident: &[u8],
+    packed: bool,
+    notes: Notes,
+    field: Option<Typing>,
+) -> Place
     ensures { result ≡ spec.field_or_outer env.now ident.now packed notes field }
 {
     match field {
@@ -118,7 +124,13 @@ pub fn field_place(env: &Env, ident: &[u8], notes: Notes, structure: Option<&Str
 {
     match structure {
         Some(Structure::RecordOf(packed, fields)) => {
-            field_or_outer(env, ident, *packed, notes, field_in(fields.as_slice(), ident))
+            field_or_outer(
+                env,
+                ident,
+                *packed,
+                notes,
+                field_in(fields.as_slice(), ident),
+            )
         }
         _ => field_or_outer(env, ident, false, notes, None),
     }

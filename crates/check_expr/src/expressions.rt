@@ -14,7 +14,8 @@ use crate::operators::{
     judgement_of_both, negation, product_type, relation_judgement, signed_judgement, sum_type,
 };
 use check_rules::{
-    CLEAN, Entity, Host, Parameter, Standard, Typing, WRONG_ARGUMENTS, string_constant, structure_at,
+    CLEAN, Entity, Host, Parameter, Standard, Typing, WRONG_ARGUMENTS, string_constant,
+    structure_at,
 };
 use dice_base::{NoMemory, Text};
 use pascal_tree::{Access, AccessPart, AddPart, Expr, Factor, MulPart, SumExpr, Term};
@@ -48,12 +49,7 @@ fn components_place(
 
 #[cycle(value_of)]
 #[tactic(auto, unfolding(crate::specs::Expressions::part_of, crate::specs::Expressions::value_of))]
-fn part_of(
-    alloc: Global,
-    env: &Env,
-    place: Place,
-    part: &AccessPart,
-) -> Result<Place, NoMemory>
+fn part_of(alloc: Global, env: &Env, place: Place, part: &AccessPart) -> Result<Place, NoMemory>
     ensures { IfOk result (λ p. p ≡ folds.part_of env.now part.now place) }
 {
     match part {
@@ -127,7 +123,7 @@ fn missing_arguments(alloc: Global, env: &Env, parameters: &[Parameter]) -> Note
 {
     match parameters {
         [] => notes_of(alloc, CLEAN),
-        _ => notes_of(alloc, WRONG_ARGUMENTS),
+        [_first, _rest @ ..] => notes_of(alloc, WRONG_ARGUMENTS),
     }
 }
 
@@ -155,23 +151,20 @@ fn is_function(standard: Standard) -> bool
     }
 }
 
-#[cycle(value_of)]
-fn steps_value(
+// The value of an access whose steps lead to a place.
+fn access_result(
     alloc: Global,
     env: &Env,
     ident: &[u8],
     parts: &[AccessPart],
-) -> Result<Judged, NoMemory>
-    ensures { IfOk result (λ v. v ≡ (accesses.access_value env.now (accesses.access_from env.now ident.now (map (folds.part_of env.now) parts.now))).judged) }
+    place: Place,
+) -> Judged
+    requires { place ≡ accesses.place_after (accesses.first_place (accesses.entity_at env.now ident.now)) (map (folds.part_of env.now) parts.now) }
+    ensures { result ≡ (accesses.access_value env.now (accesses.access_from env.now ident.now (map (folds.part_of env.now) parts.now))).judged }
 {
     match parts {
-        [] => Ok(ident_value(alloc, env, ident)),
-        [first, rest @ ..] => {
-            let place = first_place(alloc, env, ident);
-            let place = part_of(alloc, env, place, first)?;
-            let place = place_after(alloc, env, place, rest)?;
-            Ok(place_value(place))
-        }
+        [] => ident_value(alloc, env, ident),
+        [_first, _rest @ ..] => place_value(place),
     }
 }
 
@@ -180,7 +173,10 @@ fn steps_value(
 fn access_value(alloc: Global, env: &Env, access: &Access) -> Result<Judged, NoMemory>
     ensures { IfOk result (λ v. v ≡ (accesses.access_value env.now (folds.access_of env.now access.now)).judged) }
 {
-    steps_value(alloc, env, access.ident.bytes(), access.parts.as_slice())
+    let ident = access.ident.bytes();
+    let parts = access.parts.as_slice();
+    let place = place_after(alloc, env, first_place(alloc, env, ident), parts)?;
+    Ok(access_result(alloc, env, ident, parts, place))
 }
 
 fn literal(alloc: Global, text: &Text) -> Result<Judged, NoMemory>
@@ -211,12 +207,7 @@ fn factor_of(alloc: Global, env: &Env, factor: &Factor) -> Result<Judged, NoMemo
 
 #[cycle(value_of)]
 #[tactic(auto, using(crate::proofs::Ranks::multiplied_is))]
-fn product_with(
-    alloc: Global,
-    env: &Env,
-    first: Judged,
-    part: &MulPart,
-) -> Result<Judged, NoMemory>
+fn product_with(alloc: Global, env: &Env, first: Judged, part: &MulPart) -> Result<Judged, NoMemory>
     ensures { IfOk result (λ v. v ≡ spec.product_with env.now.table first (folds.multiplying_of env.now part.now)) }
 {
     let value = factor_of(alloc, env, &part.right)?;
@@ -251,12 +242,7 @@ fn term_of(alloc: Global, env: &Env, term: &Term) -> Result<Judged, NoMemory>
 
 #[cycle(value_of)]
 #[tactic(auto, using(crate::proofs::Ranks::added_is))]
-fn sum_with(
-    alloc: Global,
-    env: &Env,
-    first: Judged,
-    part: &AddPart,
-) -> Result<Judged, NoMemory>
+fn sum_with(alloc: Global, env: &Env, first: Judged, part: &AddPart) -> Result<Judged, NoMemory>
     ensures { IfOk result (λ v. v ≡ spec.sum_with env.now.table first (folds.adding_of env.now part.now)) }
 {
     let value = term_of(alloc, env, &part.right)?;
@@ -265,12 +251,7 @@ fn sum_with(
 }
 
 #[cycle(value_of)]
-fn sum_of_all(
-    alloc: Global,
-    env: &Env,
-    first: Judged,
-    rest: &[AddPart],
-) -> Result<Judged, NoMemory>
+fn sum_of_all(alloc: Global, env: &Env, first: Judged, rest: &[AddPart]) -> Result<Judged, NoMemory>
     ensures { IfOk result (λ v. v ≡ spec.sum_of_all env.now.table first (map (folds.adding_of env.now) rest.now)) }
 {
     let mut so_far = first;

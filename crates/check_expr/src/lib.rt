@@ -9,6 +9,8 @@ mod expressions;
 mod notes;
 mod operators;
 
-pub use accesses::{component_place, declared_entity, domain_place, field_place, first_place, opened_field};
+pub use accesses::{
+    component_place, declared_entity, domain_place, field_place, first_place, opened_field,
+};
 pub use expressions::value_of;
 pub use notes::{Env, Judged, Notes, OpenedRecord, Place, notes_of, notes_of_both, notes_with};

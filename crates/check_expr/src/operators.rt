@@ -146,10 +146,14 @@ fn is_relation(table: &[WrittenType], op: RelOp, a: Typing, b: Typing) -> bool
         RelOp::Less => are_compatible_ordinals(table, a, b) || are_same_strings(table, a, b),
         RelOp::Greater => are_compatible_ordinals(table, a, b) || are_same_strings(table, a, b),
         RelOp::LessEqual => {
-            are_compatible_ordinals(table, a, b) || are_same_strings(table, a, b) || are_compatible_sets(table, a, b)
+            are_compatible_ordinals(table, a, b)
+                || are_same_strings(table, a, b)
+                || are_compatible_sets(table, a, b)
         }
         RelOp::GreaterEqual => {
-            are_compatible_ordinals(table, a, b) || are_same_strings(table, a, b) || are_compatible_sets(table, a, b)
+            are_compatible_ordinals(table, a, b)
+                || are_same_strings(table, a, b)
+                || are_compatible_sets(table, a, b)
         }
         RelOp::Member => is_member(table, a, b),
     }
