@@ -11,9 +11,9 @@ use Rattle.check_cases.specs.Forms.{number, access, field, value, argument, func
 abbrev program_1 : BlockJudge
 program_1 =
     (block None ((constant_at 2 (codes "k") (constant.Number prefix.Without 1)) ∷ []) [] [] ((routine_at 3
-      (procedure (codes "p") ((section true ((codes "x") ∷ []) (codes "integer")) ∷ [])) (Some (block None [] [] []
-      [] (at_name 4 (compound ((at_name 5 empty) ∷ [])))))) ∷ []) (at_name 6 (compound ((at_name 7 (call (codes
-      "p") ((argument (value (access (codes "k") [])) None) ∷ []))) ∷ []))))
+    (procedure (codes "p") ((section true ((codes "x") ∷ []) (codes "integer")) ∷ [])) (Some (block None [] [] []
+    [] (at_name 4 (compound ((at_name 5 empty) ∷ [])))))) ∷ []) (at_name 6 (compound ((at_name 7 (call (codes
+    "p") ((argument (value (access (codes "k") [])) None) ∷ []))) ∷ []))))
 
 case_1 : shown (checked [] program_1) ≡ Fault 7 5
 case_1 = refl
@@ -22,8 +22,8 @@ case_1 = refl
 abbrev program_2 : BlockJudge
 program_2 =
     (block None [] [] [] ((routine_at 2 (procedure (codes "p") ((section false ((codes "a") ∷ []) (codes
-      "integer")) ∷ [])) (Some (block None [] [] [] [] (at_name 3 (compound ((at_name 4 empty) ∷ [])))))) ∷ [])
-      (at_name 5 (compound ((at_name 6 (call (codes "p") [])) ∷ []))))
+    "integer")) ∷ [])) (Some (block None [] [] [] [] (at_name 3 (compound ((at_name 4 empty) ∷ [])))))) ∷ [])
+    (at_name 5 (compound ((at_name 6 (call (codes "p") [])) ∷ []))))
 
 case_2 : shown (checked [] program_2) ≡ Fault 6 5
 case_2 = refl
@@ -32,9 +32,9 @@ case_2 = refl
 abbrev program_3 : BlockJudge
 program_3 =
     (block None [] [] [] ((routine_at 2 (procedure (codes "p") ((section false ((codes "a") ∷ []) (codes
-      "integer")) ∷ [])) (Some (block None [] [] [] [] (at_name 3 (compound ((at_name 4 empty) ∷ [])))))) ∷ [])
-      (at_name 5 (compound ((at_name 6 (call (codes "p") ((argument (number 1) None) ∷ (argument (number 2) None) ∷
-      []))) ∷ []))))
+    "integer")) ∷ [])) (Some (block None [] [] [] [] (at_name 3 (compound ((at_name 4 empty) ∷ [])))))) ∷ [])
+    (at_name 5 (compound ((at_name 6 (call (codes "p") ((argument (number 1) None) ∷ (argument (number 2) None) ∷
+    []))) ∷ []))))
 
 case_3 : shown (checked [] program_3) ≡ Fault 6 5
 case_3 = refl
@@ -43,8 +43,8 @@ case_3 = refl
 abbrev program_4 : BlockJudge
 program_4 =
     (block None [] [] [] ((routine_at 2 (procedure (codes "p") ((section false ((codes "a") ∷ []) (codes
-      "integer")) ∷ [])) (Some (block None [] [] [] [] (at_name 3 (compound ((at_name 4 empty) ∷ [])))))) ∷ [])
-      (at_name 5 (compound ((at_name 6 (call (codes "p") ((argument (number 1) (Some (number 2))) ∷ []))) ∷ []))))
+    "integer")) ∷ [])) (Some (block None [] [] [] [] (at_name 3 (compound ((at_name 4 empty) ∷ [])))))) ∷ [])
+    (at_name 5 (compound ((at_name 6 (call (codes "p") ((argument (number 1) (Some (number 2))) ∷ []))) ∷ []))))
 
 case_4 : shown (checked [] program_4) ≡ Fault 6 5
 case_4 = refl
@@ -53,10 +53,10 @@ case_4 = refl
 abbrev program_5 : BlockJudge
 program_5 =
     (block None [] [] ((variables_at 2 ((codes "i") ∷ []) (range (constant.Number prefix.Without 1)
-      (constant.Number prefix.Without 3))) ∷ []) ((routine_at 3 (procedure (codes "p") ((section true ((codes "a")
-      ∷ []) (codes "integer")) ∷ [])) (Some (block None [] [] [] [] (at_name 4 (compound ((at_name 5 empty) ∷
-      [])))))) ∷ []) (at_name 6 (compound ((at_name 7 (call (codes "p") ((argument (value (access (codes "i") []))
-      None) ∷ []))) ∷ []))))
+    (constant.Number prefix.Without 3))) ∷ []) ((routine_at 3 (procedure (codes "p") ((section true ((codes "a")
+    ∷ []) (codes "integer")) ∷ [])) (Some (block None [] [] [] [] (at_name 4 (compound ((at_name 5 empty) ∷
+    [])))))) ∷ []) (at_name 6 (compound ((at_name 7 (call (codes "p") ((argument (value (access (codes "i") []))
+    None) ∷ []))) ∷ []))))
 
 case_5 : shown (checked [] program_5) ≡ Fault 7 5
 case_5 = refl
@@ -64,11 +64,14 @@ case_5 = refl
 -- program z; var r: packed record i: integer end; procedure p(var a: integer); begin end; begin p(r.i) end.
 abbrev program_6 : BlockJudge
 program_6 =
-    (block None [] [] ((variables_at 2 ((codes "r") ∷ []) (record_type true ((((codes "i") ∷ []), (named_type
-      (codes "integer"))) ∷ []))) ∷ []) ((routine_at 3 (procedure (codes "p") ((section true ((codes "a") ∷ [])
-      (codes "integer")) ∷ [])) (Some (block None [] [] [] [] (at_name 4 (compound ((at_name 5 empty) ∷ [])))))) ∷
-      []) (at_name 6 (compound ((at_name 7 (call (codes "p") ((argument (value (access (codes "r") ((field (codes
-      "i")) ∷ []))) None) ∷ []))) ∷ []))))
+    (block None [] [] ((variables_at 2 ((codes "r") ∷ []) (record_type true ((
+      ((codes "i") ∷ []),
+      (named_type
+          (codes "integer")),
+    ) ∷ []))) ∷ []) ((routine_at 3 (procedure (codes "p") ((section true ((codes "a") ∷ [])
+    (codes "integer")) ∷ [])) (Some (block None [] [] [] [] (at_name 4 (compound ((at_name 5 empty) ∷ [])))))) ∷
+    []) (at_name 6 (compound ((at_name 7 (call (codes "p") ((argument (value (access (codes "r") ((field (codes
+    "i")) ∷ []))) None) ∷ []))) ∷ []))))
 
 case_6 : shown (checked [] program_6) ≡ Fault 7 5
 case_6 = refl
@@ -76,11 +79,14 @@ case_6 = refl
 -- program z; var r: packed record i: integer end; procedure p(var a: integer); begin end; begin with r do p(i) end.
 abbrev program_7 : BlockJudge
 program_7 =
-    (block None [] [] ((variables_at 2 ((codes "r") ∷ []) (record_type true ((((codes "i") ∷ []), (named_type
-      (codes "integer"))) ∷ []))) ∷ []) ((routine_at 3 (procedure (codes "p") ((section true ((codes "a") ∷ [])
-      (codes "integer")) ∷ [])) (Some (block None [] [] [] [] (at_name 4 (compound ((at_name 5 empty) ∷ [])))))) ∷
-      []) (at_name 6 (compound ((at_name 7 (with_do ((access (codes "r") []) ∷ []) (at_name 8 (call (codes "p")
-      ((argument (value (access (codes "i") [])) None) ∷ []))))) ∷ []))))
+    (block None [] [] ((variables_at 2 ((codes "r") ∷ []) (record_type true ((
+      ((codes "i") ∷ []),
+      (named_type
+          (codes "integer")),
+    ) ∷ []))) ∷ []) ((routine_at 3 (procedure (codes "p") ((section true ((codes "a") ∷ [])
+    (codes "integer")) ∷ [])) (Some (block None [] [] [] [] (at_name 4 (compound ((at_name 5 empty) ∷ [])))))) ∷
+    []) (at_name 6 (compound ((at_name 7 (with_do ((access (codes "r") []) ∷ []) (at_name 8 (call (codes "p")
+    ((argument (value (access (codes "i") [])) None) ∷ []))))) ∷ []))))
 
 case_7 : shown (checked [] program_7) ≡ Fault 8 5
 case_7 = refl
@@ -89,9 +95,9 @@ case_7 = refl
 abbrev program_8 : BlockJudge
 program_8 =
     (block None [] [] ((variables_at 2 ((codes "i") ∷ []) (named_type (codes "integer"))) ∷ []) ((routine_at 3
-      (procedure (codes "p") ((section true ((codes "a") ∷ []) (codes "integer")) ∷ [])) (Some (block None [] [] []
-      [] (at_name 4 (compound ((at_name 5 empty) ∷ [])))))) ∷ []) (at_name 6 (compound ((at_name 7 (call (codes
-      "p") ((argument (paren (value (access (codes "i") []))) None) ∷ []))) ∷ []))))
+    (procedure (codes "p") ((section true ((codes "a") ∷ []) (codes "integer")) ∷ [])) (Some (block None [] [] []
+    [] (at_name 4 (compound ((at_name 5 empty) ∷ [])))))) ∷ []) (at_name 6 (compound ((at_name 7 (call (codes
+    "p") ((argument (paren (value (access (codes "i") []))) None) ∷ []))) ∷ []))))
 
 case_8 : shown (checked [] program_8) ≡ Fault 7 5
 case_8 = refl
@@ -100,10 +106,10 @@ case_8 = refl
 abbrev program_9 : BlockJudge
 program_9 =
     (block None [] [] ((variables_at 2 ((codes "i") ∷ []) (named_type (codes "integer"))) ∷ []) ((routine_at 3
-      (procedure (codes "p") ((section true ((codes "a") ∷ []) (codes "integer")) ∷ [])) (Some (block None [] [] []
-      [] (at_name 4 (compound ((at_name 5 empty) ∷ [])))))) ∷ []) (at_name 6 (compound ((at_name 7 (call (codes
-      "p") ((argument (sum prefix.Without (value (access (codes "i") [])) ((add.Plus, (number 1)) ∷ [])) None) ∷
-      []))) ∷ []))))
+    (procedure (codes "p") ((section true ((codes "a") ∷ []) (codes "integer")) ∷ [])) (Some (block None [] [] []
+    [] (at_name 4 (compound ((at_name 5 empty) ∷ [])))))) ∷ []) (at_name 6 (compound ((at_name 7 (call (codes
+    "p") ((argument (sum prefix.Without (value (access (codes "i") [])) ((add.Plus, (number 1)) ∷ [])) None) ∷
+    []))) ∷ []))))
 
 case_9 : shown (checked [] program_9) ≡ Fault 7 5
 case_9 = refl
@@ -120,7 +126,7 @@ case_10 = refl
 abbrev program_11 : BlockJudge
 program_11 =
     (block None [] [] [] [] (at_name 2 (compound ((at_name 3 (call (codes "write") ((argument (value (access (codes
-      "output") [])) None) ∷ []))) ∷ []))))
+    "output") [])) None) ∷ []))) ∷ []))))
 
 case_11 : shown (checked [] program_11) ≡ Fault 3 5
 case_11 = refl
@@ -137,7 +143,7 @@ case_12 = refl
 abbrev program_13 : BlockJudge
 program_13 =
     (block None [] [] ((variables_at 2 ((codes "i") ∷ []) (named_type (codes "integer"))) ∷ []) [] (at_name 3
-      (compound ((at_name 4 (assign (access (codes "i") []) (value (access (codes "abs") [])))) ∷ []))))
+    (compound ((at_name 4 (assign (access (codes "i") []) (value (access (codes "abs") [])))) ∷ []))))
 
 case_13 : shown (checked [] program_13) ≡ Fault 4 5
 case_13 = refl
@@ -146,8 +152,8 @@ case_13 = refl
 abbrev program_14 : BlockJudge
 program_14 =
     (block None [] [] ((variables_at 2 ((codes "i") ∷ []) (named_type (codes "integer"))) ∷ []) [] (at_name 3
-      (compound ((at_name 4 (assign (access (codes "i") []) (function_call (codes "abs") ((argument (number 1)
-      None) ∷ (argument (number 2) None) ∷ [])))) ∷ []))))
+    (compound ((at_name 4 (assign (access (codes "i") []) (function_call (codes "abs") ((argument (number 1)
+    None) ∷ (argument (number 2) None) ∷ [])))) ∷ []))))
 
 case_14 : shown (checked [] program_14) ≡ Fault 4 5
 case_14 = refl
@@ -156,8 +162,8 @@ case_14 = refl
 abbrev program_15 : BlockJudge
 program_15 =
     (block None [] [] ((variables_at 2 ((codes "i") ∷ []) (named_type (codes "integer"))) ∷ []) [] (at_name 3
-      (compound ((at_name 4 (call (codes "read") ((argument (value (access (codes "i") [])) (Some (number 3))) ∷
-      []))) ∷ []))))
+    (compound ((at_name 4 (call (codes "read") ((argument (value (access (codes "i") [])) (Some (number 3))) ∷
+    []))) ∷ []))))
 
 case_15 : shown (checked [] program_15) ≡ Fault 4 5
 case_15 = refl
@@ -166,8 +172,8 @@ case_15 = refl
 abbrev program_16 : BlockJudge
 program_16 =
     (block None [] [] ((variables_at 2 ((codes "p") ∷ []) (pointer (codes "integer"))) ∷ []) [] (at_name 3
-      (compound ((at_name 4 (call (codes "new") ((argument (value (access (codes "p") [])) None) ∷ (argument
-      (number 1) None) ∷ []))) ∷ []))))
+    (compound ((at_name 4 (call (codes "new") ((argument (value (access (codes "p") [])) None) ∷ (argument
+    (number 1) None) ∷ []))) ∷ []))))
 
 case_16 : shown (checked [] program_16) ≡ Fault 4 5
 case_16 = refl
@@ -176,7 +182,7 @@ case_16 = refl
 abbrev program_17 : BlockJudge
 program_17 =
     (block None [] [] [] [] (at_name 2 (compound ((at_name 3 (call (codes "write") ((argument (value (access (codes
-      "output") [])) None) ∷ []))) ∷ []))))
+    "output") [])) None) ∷ []))) ∷ []))))
 
 case_17 : shown (checked [] program_17) ≡ Fault 3 5
 case_17 = refl

@@ -24,7 +24,7 @@ case_2 = refl
 abbrev program_3 : BlockJudge
 program_3 =
     (block (Some (name_of 2, (1 ∷ []))) [] [] [] [] (at_name 3 (compound ((at_label 4 1 empty) ∷ (at_label 5 1
-      empty) ∷ []))))
+    empty) ∷ []))))
 
 case_3 : shown (checked [] program_3) ≡ Fault 2 7
 case_3 = refl
@@ -41,7 +41,7 @@ case_4 = refl
 abbrev program_5 : BlockJudge
 program_5 =
     (block (Some (name_of 2, (1 ∷ []))) [] [] [] [] (at_name 3 (compound ((at_name 4 (compound ((at_label 5 1
-      empty) ∷ []))) ∷ (at_name 6 (goto 1)) ∷ []))))
+    empty) ∷ []))) ∷ (at_name 6 (goto 1)) ∷ []))))
 
 case_5 : shown (checked [] program_5) ≡ Fault 6 7
 case_5 = refl
@@ -50,8 +50,8 @@ case_5 = refl
 abbrev program_6 : BlockJudge
 program_6 =
     (block (Some (name_of 2, (1 ∷ []))) [] [] [] [] (at_name 3 (compound ((at_name 4 (repeat_until ((at_label 5 1
-      empty) ∷ []) (value (access (codes "false") [])))) ∷ (at_name 6 (while_do (value (access (codes "true") []))
-      (at_name 7 (goto 1)))) ∷ []))))
+    empty) ∷ []) (value (access (codes "false") [])))) ∷ (at_name 6 (while_do (value (access (codes "true") []))
+    (at_name 7 (goto 1)))) ∷ []))))
 
 case_6 : shown (checked [] program_6) ≡ Fault 7 7
 case_6 = refl
@@ -60,8 +60,8 @@ case_6 = refl
 abbrev program_7 : BlockJudge
 program_7 =
     (block (Some (name_of 2, (1 ∷ []))) [] [] [] ((routine_at 3 (procedure (codes "p") []) (Some (block None [] []
-      [] [] (at_name 4 (compound ((at_name 5 (goto 1)) ∷ [])))))) ∷ []) (at_name 6 (compound ((at_label 7 1 empty)
-      ∷ []))))
+    [] [] (at_name 4 (compound ((at_name 5 (goto 1)) ∷ [])))))) ∷ []) (at_name 6 (compound ((at_label 7 1 empty)
+    ∷ []))))
 
 case_7 : shown (checked [] program_7) ≡ Fault 5 7
 case_7 = refl

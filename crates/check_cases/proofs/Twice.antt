@@ -10,7 +10,7 @@ use Rattle.check_cases.specs.Forms.{name_of, named_type, enumeration, record_typ
 abbrev program_1 : BlockJudge
 program_1 =
     (block None ((constant_at 2 (codes "a") (constant.Number prefix.Without 1)) ∷ []) ((type_at 3 (codes "a")
-      (named_type (codes "integer"))) ∷ []) [] [] (at_name 4 (compound ((at_name 5 empty) ∷ []))))
+    (named_type (codes "integer"))) ∷ []) [] [] (at_name 4 (compound ((at_name 5 empty) ∷ []))))
 
 case_1 : shown (checked [] program_1) ≡ Fault 3 2
 case_1 = refl
@@ -19,7 +19,7 @@ case_1 = refl
 abbrev program_2 : BlockJudge
 program_2 =
     (block None [] [] ((variables_at 2 ((codes "a") ∷ (codes "b") ∷ (codes "a") ∷ []) (named_type (codes
-      "integer"))) ∷ []) [] (at_name 3 (compound ((at_name 4 empty) ∷ []))))
+    "integer"))) ∷ []) [] (at_name 3 (compound ((at_name 4 empty) ∷ []))))
 
 case_2 : shown (checked [] program_2) ≡ Fault 2 2
 case_2 = refl
@@ -28,7 +28,7 @@ case_2 = refl
 abbrev program_3 : BlockJudge
 program_3 =
     (block None [] ((type_at 2 (codes "c") (enumeration ((codes "r") ∷ (codes "g") ∷ (codes "r") ∷ []))) ∷ []) []
-      [] (at_name 3 (compound ((at_name 4 empty) ∷ []))))
+    [] (at_name 3 (compound ((at_name 4 empty) ∷ []))))
 
 case_3 : shown (checked [] program_3) ≡ Fault 2 2
 case_3 = refl
@@ -36,9 +36,11 @@ case_3 = refl
 -- program z; var a: record x, y: integer; x: char end; begin end.
 abbrev program_4 : BlockJudge
 program_4 =
-    (block None [] [] ((variables_at 2 ((codes "a") ∷ []) (record_type false ((((codes "x") ∷ (codes "y") ∷ []),
-      (named_type (codes "integer"))) ∷ (((codes "x") ∷ []), (named_type (codes "char"))) ∷ []))) ∷ []) [] (at_name
-      3 (compound ((at_name 4 empty) ∷ []))))
+    (block None [] [] ((variables_at 2 ((codes "a") ∷ []) (record_type false ((
+      ((codes "x") ∷ (codes "y") ∷ []),
+      (named_type (codes "integer")),
+    ) ∷ (((codes "x") ∷ []), (named_type (codes "char"))) ∷ []))) ∷ []) [] (at_name
+    3 (compound ((at_name 4 empty) ∷ []))))
 
 case_4 : shown (checked [] program_4) ≡ Fault 2 2
 case_4 = refl
@@ -47,9 +49,9 @@ case_4 = refl
 abbrev program_5 : BlockJudge
 program_5 =
     (block None [] [] [] ((routine_at 2 (procedure (codes "p") ((section false ((codes "a") ∷ []) (codes
-      "integer")) ∷ [])) (Some (block None [] [] ((variables_at 3 ((codes "a") ∷ []) (named_type (codes "char"))) ∷
-      []) [] (at_name 4 (compound ((at_name 5 empty) ∷ [])))))) ∷ []) (at_name 6 (compound ((at_name 7 empty) ∷
-      []))))
+    "integer")) ∷ [])) (Some (block None [] [] ((variables_at 3 ((codes "a") ∷ []) (named_type (codes "char"))) ∷
+    []) [] (at_name 4 (compound ((at_name 5 empty) ∷ [])))))) ∷ []) (at_name 6 (compound ((at_name 7 empty) ∷
+    []))))
 
 case_5 : shown (checked [] program_5) ≡ Fault 3 2
 case_5 = refl
@@ -58,8 +60,8 @@ case_5 = refl
 abbrev program_6 : BlockJudge
 program_6 =
     (block None [] [] [] ((routine_at 2 (procedure (codes "p") ((section false ((codes "a") ∷ (codes "a") ∷ [])
-      (codes "integer")) ∷ [])) (Some (block None [] [] [] [] (at_name 3 (compound ((at_name 4 empty) ∷ [])))))) ∷
-      []) (at_name 5 (compound ((at_name 6 empty) ∷ []))))
+    (codes "integer")) ∷ [])) (Some (block None [] [] [] [] (at_name 3 (compound ((at_name 4 empty) ∷ [])))))) ∷
+    []) (at_name 5 (compound ((at_name 6 empty) ∷ []))))
 
 case_6 : shown (checked [] program_6) ≡ Fault 2 2
 case_6 = refl
@@ -76,8 +78,8 @@ case_7 = refl
 abbrev program_8 : BlockJudge
 program_8 =
     (block None [] [] ((variables_at 2 ((codes "a") ∷ []) (enumeration ((codes "x") ∷ (codes "y") ∷ []))) ∷
-      (variables_at 3 ((codes "b") ∷ []) (enumeration ((codes "y") ∷ (codes "z") ∷ []))) ∷ []) [] (at_name 4
-      (compound ((at_name 5 empty) ∷ []))))
+    (variables_at 3 ((codes "b") ∷ []) (enumeration ((codes "y") ∷ (codes "z") ∷ []))) ∷ []) [] (at_name 4
+    (compound ((at_name 5 empty) ∷ []))))
 
 case_8 : shown (checked [] program_8) ≡ Fault 3 2
 case_8 = refl
@@ -85,9 +87,12 @@ case_8 = refl
 -- program z; var a: record q: (x, y) end; x: integer; begin end.
 abbrev program_9 : BlockJudge
 program_9 =
-    (block None [] [] ((variables_at 2 ((codes "a") ∷ []) (record_type false ((((codes "q") ∷ []), (enumeration
-      ((codes "x") ∷ (codes "y") ∷ []))) ∷ []))) ∷ (variables_at 3 ((codes "x") ∷ []) (named_type (codes
-      "integer"))) ∷ []) [] (at_name 4 (compound ((at_name 5 empty) ∷ []))))
+    (block None [] [] ((variables_at 2 ((codes "a") ∷ []) (record_type false ((
+      ((codes "q") ∷ []),
+      (enumeration
+          ((codes "x") ∷ (codes "y") ∷ [])),
+    ) ∷ []))) ∷ (variables_at 3 ((codes "x") ∷ []) (named_type (codes
+    "integer"))) ∷ []) [] (at_name 4 (compound ((at_name 5 empty) ∷ []))))
 
 case_9 : shown (checked [] program_9) ≡ Fault 3 2
 case_9 = refl
@@ -96,8 +101,8 @@ case_9 = refl
 abbrev program_10 : BlockJudge
 program_10 =
     (block None [] [] [] ((routine_at 2 (procedure (codes "p") []) None) ∷ (routine_at 3 (procedure (codes "p") [])
-      None) ∷ (routine_at 4 (procedure (codes "p") []) (Some (block None [] [] [] [] (at_name 5 (compound ((at_name
-      6 empty) ∷ [])))))) ∷ []) (at_name 7 (compound ((at_name 8 empty) ∷ []))))
+    None) ∷ (routine_at 4 (procedure (codes "p") []) (Some (block None [] [] [] [] (at_name 5 (compound ((at_name
+    6 empty) ∷ [])))))) ∷ []) (at_name 7 (compound ((at_name 8 empty) ∷ []))))
 
 case_10 : shown (checked [] program_10) ≡ Fault 3 2
 case_10 = refl
@@ -106,9 +111,9 @@ case_10 = refl
 abbrev program_11 : BlockJudge
 program_11 =
     (block None [] [] [] ((routine_at 2 (procedure (codes "p") []) None) ∷ (routine_at 3 (procedure (codes "p") [])
-      (Some (block None [] [] [] [] (at_name 4 (compound ((at_name 5 empty) ∷ [])))))) ∷ (routine_at 6 (procedure
-      (codes "p") []) (Some (block None [] [] [] [] (at_name 7 (compound ((at_name 8 empty) ∷ [])))))) ∷ [])
-      (at_name 9 (compound ((at_name 10 empty) ∷ []))))
+    (Some (block None [] [] [] [] (at_name 4 (compound ((at_name 5 empty) ∷ [])))))) ∷ (routine_at 6 (procedure
+    (codes "p") []) (Some (block None [] [] [] [] (at_name 7 (compound ((at_name 8 empty) ∷ [])))))) ∷ [])
+    (at_name 9 (compound ((at_name 10 empty) ∷ []))))
 
 case_11 : shown (checked [] program_11) ≡ Fault 6 2
 case_11 = refl
@@ -117,7 +122,7 @@ case_11 = refl
 abbrev program_12 : BlockJudge
 program_12 =
     (block None ((constant_at 2 (codes "a") (constant.Number prefix.Without 1)) ∷ []) ((type_at 3 (codes "a")
-      (named_type (codes "integer"))) ∷ []) [] [] (at_name 4 (compound ((at_name 5 empty) ∷ []))))
+    (named_type (codes "integer"))) ∷ []) [] [] (at_name 4 (compound ((at_name 5 empty) ∷ []))))
 
 case_12 : shown (checked [] program_12) ≡ Fault 3 2
 case_12 = refl
@@ -125,9 +130,12 @@ case_12 = refl
 -- program z; var a: record q: (x, y) end; x: integer; begin end.
 abbrev program_13 : BlockJudge
 program_13 =
-    (block None [] [] ((variables_at 2 ((codes "a") ∷ []) (record_type false ((((codes "q") ∷ []), (enumeration
-      ((codes "x") ∷ (codes "y") ∷ []))) ∷ []))) ∷ (variables_at 3 ((codes "x") ∷ []) (named_type (codes
-      "integer"))) ∷ []) [] (at_name 4 (compound ((at_name 5 empty) ∷ []))))
+    (block None [] [] ((variables_at 2 ((codes "a") ∷ []) (record_type false ((
+      ((codes "q") ∷ []),
+      (enumeration
+          ((codes "x") ∷ (codes "y") ∷ [])),
+    ) ∷ []))) ∷ (variables_at 3 ((codes "x") ∷ []) (named_type (codes
+    "integer"))) ∷ []) [] (at_name 4 (compound ((at_name 5 empty) ∷ []))))
 
 case_13 : shown (checked [] program_13) ≡ Fault 3 2
 case_13 = refl
@@ -136,9 +144,9 @@ case_13 = refl
 abbrev program_14 : BlockJudge
 program_14 =
     (block None [] [] [] ((routine_at 2 (procedure (codes "p") ((section false ((codes "a") ∷ []) (codes
-      "integer")) ∷ [])) (Some (block None [] [] ((variables_at 3 ((codes "a") ∷ []) (named_type (codes "char"))) ∷
-      []) [] (at_name 4 (compound ((at_name 5 empty) ∷ [])))))) ∷ []) (at_name 6 (compound ((at_name 7 empty) ∷
-      []))))
+    "integer")) ∷ [])) (Some (block None [] [] ((variables_at 3 ((codes "a") ∷ []) (named_type (codes "char"))) ∷
+    []) [] (at_name 4 (compound ((at_name 5 empty) ∷ [])))))) ∷ []) (at_name 6 (compound ((at_name 7 empty) ∷
+    []))))
 
 case_14 : shown (checked [] program_14) ≡ Fault 3 2
 case_14 = refl
