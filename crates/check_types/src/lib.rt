@@ -6,11 +6,13 @@
 #![tactic(auto)]
 
 mod constants;
+mod enumerations;
 mod state;
 mod types;
 mod typing;
 
 pub use constants::{constant_of, number_in};
+pub use enumerations::push_constants;
 pub use state::{RecordWalk, TypeState, Typed};
 pub use types::type_named;
 pub use typing::type_of;
