@@ -2,8 +2,8 @@
 -- text, and the rule of a label declaration part.
 use Rattle.std.specs.Prelude.{ℕ, ◌+◌, min, Bool, true, false, ◌&&◌, ◌||◌, not, nat_eq, nat_le, if◌then◌else◌, List, [], ◌∷◌, ◌++◌, Option, Some, None, option_to_list}
 use Rattle.pascal_tree.specs.declared.stmt.Stmt.{Stmt, Stmt-F, fold-Stmt}
-use Rattle.pascal_tree.specs.declared.stmt.StmtKind.{StmtKind-F}
-use Rattle.pascal_tree.specs.declared.stmt.Arm.{Arm-F}
+use Rattle.pascal_tree.specs.declared.stmt.StmtKind.{StmtKind, StmtKind-F, fold-StmtKind}
+use Rattle.pascal_tree.specs.declared.stmt.Arm.{Arm, Arm-F, fold-Arm}
 use Rattle.check_rules.specs.Faults.{kind_unless}
 use Rattle.check_rules.specs.declared.kinds.TheConstants.{TWICE, WRONG_LABEL}
 
@@ -42,6 +42,12 @@ labels_in_stmt s = option_to_list s.label ++ s.kind
 
 unfoldable pub placed_labels : Stmt → Numbers
 placed_labels = fold-Stmt Numbers Numbers Numbers labels_in_kind labels_in_arm labels_in_stmt
+
+unfoldable pub kind_labels : StmtKind → Numbers
+kind_labels = fold-StmtKind Numbers Numbers Numbers labels_in_kind labels_in_arm labels_in_stmt
+
+unfoldable pub arm_labels : Arm → Numbers
+arm_labels = fold-Arm Numbers Numbers Numbers labels_in_kind labels_in_arm labels_in_stmt
 
 -- ---- each declared label once, at most 9999, and before just one statement of the block
 

@@ -6,7 +6,11 @@
 #![tactic(auto)]
 
 mod headings;
+mod items;
+mod labels;
 mod place;
 
 pub use headings::{HeadingWalk, JudgedHeading, heading_of, is_bare_heading, lacks_result};
+pub use items::decl_items;
+pub use labels::label_part;
 pub use place::{At, Known, Layout, Owner, Row};
