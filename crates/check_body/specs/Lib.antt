@@ -1,0 +1,4 @@
+pub mod BodyRules
+pub mod Programs
+pub mod StatementRules
+pub mod Statements

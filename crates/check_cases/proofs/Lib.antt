@@ -1,0 +1,12 @@
+mod Accepted
+mod Arguments
+mod Class
+mod Constants
+mod Control
+mod Forward
+mod Labels
+mod Parameters
+mod Sizes
+mod Twice
+mod Types
+mod Unknown

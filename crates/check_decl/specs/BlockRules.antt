@@ -1,0 +1,406 @@
+-- Blocks, declarations and programs (ISO 7185:1990, 6.2.1, 6.2.2, 6.3 to 6.6, 6.10): items are judged in the order of the
+-- text, and the first that is not `CLEAN` ends it. What is left are the layouts of the program and of its routines. Here
+-- is a rule for each form, whose parts stand as their judgements. `outer` are the regions outside a block, outermost
+-- first, and `here` is a place in the block.
+use Rattle.std.specs.Prelude.{ℕ, ◌+◌, min, Bool, true, false, ◌&&◌, ◌||◌, not, if◌then◌else◌, List, [], ◌∷◌, ◌++◌, Option, Some, None, is_some, Result, Ok, Err, bytes_eq, codes, nat_eq}
+use Rattle.dice_base.specs.declared.name.Name.{Name}
+use Rattle.pascal_tree.specs.declared.stmt.Constant.{Constant as WrittenConstant}
+use Rattle.pascal_tree.specs.declared.decl.Heading.{Heading}
+use Rattle.check_rules.specs.declared.typing.Typing.{Typing}
+use Rattle.check_rules.specs.declared.entity.Entity.{Entity}
+use Rattle.check_rules.specs.declared.entity.Entity.TheVariants.{ConstantOf, TypeOf, VariableOf, RoutineOf}
+use Rattle.check_rules.specs.declared.entity.JudgedConstant.{JudgedConstant}
+use Rattle.check_rules.specs.declared.entity.Parameter.{Parameter}
+use Rattle.check_rules.specs.declared.entity.RoutineEntity.{RoutineEntity}
+use Rattle.check_rules.specs.declared.entity.Region.{Region}
+use Rattle.check_rules.specs.declared.fault.CheckFault.{CheckFault}
+use Rattle.check_rules.specs.declared.kinds.TheConstants.{CLEAN, MAX_COUNTED, WRONG_FORWARD, WRONG_PARAMETER, WRONG_TYPE}
+use Rattle.check_rules.specs.Typing.{Table, Text, words_of}
+use Rattle.check_rules.specs.Faults.{kind_unless, fault_at}
+use Rattle.check_rules.specs.Regions.{Texts, Regions, has_ident, entity_in, new_region, declare, predeclared_region}
+use Rattle.check_types.specs.Constants.{constant_of}
+use Rattle.check_types.specs.TypeRules.{TypeReading, TypeJudgement}
+use Rattle.check_decl.specs.declared.headings.JudgedHeading.{JudgedHeading}
+use Rattle.check_decl.specs.declared.place.At.{At}
+use Rattle.check_decl.specs.declared.place.Known.{Known}
+use Rattle.check_decl.specs.declared.place.Owner.{Owner}
+use Rattle.check_decl.specs.Labels.{Numbers, label_part_kind}
+use Rattle.check_decl.specs.Headings.{heading_of, lacks_result, is_bare_heading}
+
+-- ---- items in turn
+
+abbrev pub Outcome : Type 0
+Outcome = Result At CheckFault
+
+abbrev pub then_on : Outcome → (At → Outcome) → Outcome
+then_on (Ok after) f = f after
+then_on (Err e) f = Err e
+
+abbrev pub unless_fault : Option CheckFault → At → Outcome
+unless_fault (Some e) here = Err e
+unless_fault None here = Ok here
+
+-- the item with this name and this least kind: where it is clean, what follows sees this
+abbrev pub item : Name → ℕ → At → Outcome
+item name kind here = unless_fault (fault_at name kind) here
+
+-- a place, and the least kind so far
+abbrev pub Judging : Type 0
+Judging = At × ℕ
+
+abbrev pub item_at : Name → Judging → Outcome
+item_at name (here, kind) = item name kind here
+
+-- ---- labels (6.2.1)
+
+-- the name of the declaration, its labels, and those that stand in the body
+abbrev pub label_part : Option (Name × Numbers) → Numbers → At → Outcome
+label_part None placed here = Ok here
+label_part (Some (name, ns)) placed here = item name (label_part_kind ns placed) here
+
+-- ---- constants (6.3)
+
+abbrev pub regions_at : Regions → At → Regions
+regions_at outer here = outer ++ here.block ∷ []
+
+abbrev pub constant_item_with : Name → At → JudgedConstant → Region × ℕ → Outcome
+constant_item_with name here c (r, kind) = item name (min c.kind kind) (record here { block = r })
+
+abbrev pub constant_item_of : Name → Text → At → JudgedConstant → Outcome
+constant_item_of name x here c =
+    constant_item_with name here c (declare here.block x (ConstantOf c.value c.typing))
+
+abbrev pub constant_item : Name → Text → WrittenConstant → Regions → At → Outcome
+constant_item name x c outer here =
+    constant_item_of name x here (constant_of here.known.table (regions_at outer here) c)
+
+-- ---- types (6.4)
+
+abbrev pub type_judgement : TypeReading → Regions → At → TypeJudgement
+type_judgement t outer here = t.judge outer [] (record { table = here.known.table; block = here.block })
+
+abbrev pub with_table : At → Table → Region → At
+with_table here tys r = record here { known = record (here.known) { table = tys }; block = r }
+
+-- the place after a type was read there, the type, and the least kind of fault
+abbrev pub after_type : At → TypeJudgement → At × Typing × ℕ
+after_type here j = (with_table here j.state.table j.state.block, j.typing, j.kind)
+
+abbrev pub typed_at : TypeReading → Regions → At → At × Typing × ℕ
+typed_at t outer here = after_type here (type_judgement t outer here)
+
+abbrev pub with_domain : Known → Name → Typing → Known
+with_domain k name t = record k { domains = k.domains ++ (name, t) ∷ [] }
+
+abbrev pub type_item_with : Name → At → Typing → ℕ → Region × ℕ → Outcome
+type_item_with name here t kind (r, k) =
+    item name (min kind k) (record here { known = with_domain here.known name t; block = r })
+
+abbrev pub type_item_of : Name → Text → At × Typing × ℕ → Outcome
+type_item_of name x (here, t, kind) =
+    type_item_with name here t kind (declare here.block x (TypeOf t (Some name)))
+
+abbrev pub type_item : Name → Text → TypeReading → Regions → At → Outcome
+type_item name x t outer here = type_item_of name x (typed_at t outer here)
+
+-- ---- variables (6.5.1), parameters, and the result of a function: a row each
+
+abbrev pub with_row : At → Text → Typing → Bool → At
+with_row here x t by_place = record here {
+  rows = here.rows ++ record { ident = x; typing = t; offset = here.words; by_place = by_place } ∷ [];
+  words = min MAX_COUNTED (here.words + (if by_place then 1 else words_of here.known.table t));
+}
+
+abbrev pub variable_entity : Name → Typing → ℕ → Bool → Bool → Entity
+variable_entity owner t offset by_place local = VariableOf (record {
+  owner = owner;
+  typing = t;
+  offset = offset;
+  by_place = by_place;
+  local = local;
+})
+
+abbrev pub variable_after : Text → Typing → Bool → Judging → Region × ℕ → Judging
+variable_after x t by_place (here, kind) (r, k) =
+    (with_row (record here { block = r }) x t by_place, min kind k)
+
+abbrev pub with_variable : Name → Text → Typing → Bool → Bool → Judging → Judging
+with_variable owner x t by_place local (here, kind) =
+    variable_after x t by_place (here, kind)
+    (declare here.block x (variable_entity owner t here.words by_place local))
+
+abbrev pub with_variables : Name → Typing → Texts → Judging → Judging
+with_variables owner t [] r = r
+with_variables owner t (x ∷ xs) r = with_variables owner t xs (with_variable owner x t false true r)
+
+abbrev pub variable_item_of : Owner → Name → Texts → At × Typing × ℕ → Outcome
+variable_item_of owner name xs (here, t, kind) = item_at name (with_variables owner.name t xs (here, kind))
+
+abbrev pub variable_item : Owner → Name → Texts → TypeReading → Regions → At → Outcome
+variable_item owner name xs t outer here = variable_item_of owner name xs (typed_at t outer here)
+
+-- ---- the parts of a block
+
+-- what is known of a declaration before its place is reached, and what comes of it there
+pub record DeclJudge : Type 0 where
+  -- all identifiers that it declares
+  pub idents : Texts
+  -- of a type declaration, its identifier with its name, and the enumeration constants in it
+  pub types : List (Text × Name)
+  pub constants : Texts
+  pub item : Owner → Regions → At → Outcome
+
+abbrev pub constant_decl : Name → Text → WrittenConstant → DeclJudge
+constant_decl name x c = record {
+  idents = x ∷ [];
+  types = [];
+  constants = [];
+  item = (λ owner outer here. constant_item name x c outer here);
+}
+
+abbrev pub type_decl : Name → Text → TypeReading → DeclJudge
+type_decl name x t = record {
+  idents = x ∷ t.constants;
+  types = (x, name) ∷ [];
+  constants = t.constants;
+  item = (λ owner outer here. type_item name x t outer here);
+}
+
+abbrev pub variable_decl : Name → Texts → TypeReading → DeclJudge
+variable_decl name xs t = record {
+  idents = xs ++ t.constants;
+  types = [];
+  constants = [];
+  item = (λ owner outer here. variable_item owner name xs t outer here);
+}
+
+-- labels are judged as a part of their own
+abbrev pub label_decl : DeclJudge
+label_decl = record {
+  idents = [];
+  types = [];
+  constants = [];
+  item = (λ owner outer here. Ok here);
+}
+
+abbrev pub decl_items : Owner → Regions → List DeclJudge → At → Outcome
+decl_items owner outer [] here = Ok here
+decl_items owner outer (d ∷ ds) here = then_on (d.item owner outer here) (decl_items owner outer ds)
+
+abbrev pub decl_idents : List DeclJudge → Texts
+decl_idents [] = []
+decl_idents (d ∷ ds) = d.idents ++ decl_idents ds
+
+abbrev pub type_names : List DeclJudge → List (Text × Name)
+type_names [] = []
+type_names (d ∷ ds) = d.types ++ type_names ds
+
+abbrev pub type_constants : List DeclJudge → Texts
+type_constants [] = []
+type_constants (d ∷ ds) = d.constants ++ type_constants ds
+
+-- while the type part is read, pointers see the types that it declares (6.4.4)
+abbrev pub with_type_part : List (Text × Name) → Texts → At → At
+with_type_part ns cs here = record here { block = record (here.block) { types = ns; constants = cs } }
+
+abbrev pub type_part_end : At → Outcome
+type_part_end here = Ok (with_type_part [] [] here)
+
+abbrev pub type_part : Owner → Regions → List DeclJudge → At → Outcome
+type_part owner outer ds here =
+    then_on (decl_items owner outer ds (with_type_part (type_names ds) (type_constants ds) here))
+    type_part_end
+
+-- ---- routines (6.6.1, 6.6.2)
+
+-- what the judgement of a block says: the identifiers that it declares, and what comes of it
+pub record BlockJudge : Type 0 where
+  pub idents : Texts
+  pub walk : Owner → Regions → At → Outcome
+
+pub record RoutineJudge : Type 0 where
+  pub name : Name
+  pub heading : Heading
+  pub block : Option BlockJudge
+
+-- the item with the block of a forward heading: the next with the identifier and the class
+abbrev pub is_same_class : Bool → Bool → Bool
+is_same_class f g = if f then g else not g
+
+abbrev pub is_block_for : Heading → RoutineJudge → Bool
+is_block_for h r =
+    is_some r.block && bytes_eq r.heading.ident h.ident && is_same_class h.function r.heading.function
+
+abbrev pub block_for : Heading → List RoutineJudge → Option Name
+block_for h [] = None
+block_for h (r ∷ rs) = if is_block_for h r then Some r.name else block_for h rs
+
+-- the routine whose forward heading this item has the block of, where it has a block
+abbrev pub forward_in : Name → Bool → Option Entity → Option RoutineEntity
+forward_in name true (Some (RoutineOf f)) = if f.forward && nat_eq f.name.0 name.0 then Some f else None
+forward_in name _ _ = None
+
+abbrev pub routine_entity : Name → Heading → ℕ → JudgedHeading → Bool → RoutineEntity
+routine_entity name h level j forward = record {
+  name = name;
+  function = h.function;
+  level = level + 1;
+  parameters = j.parameters;
+  result = j.result;
+  forward = forward;
+}
+
+-- the routine's own region has its parameters, its rows its result before them
+abbrev pub parameter_idents : List Parameter → Texts
+parameter_idents [] = []
+parameter_idents (p ∷ ps) = p.ident ∷ parameter_idents ps
+
+abbrev pub with_parameters : Name → List Parameter → Judging → Judging
+with_parameters owner [] r = r
+with_parameters owner (p ∷ ps) r =
+    with_parameters owner ps (with_variable owner p.ident p.typing p.by_place false r)
+
+abbrev pub with_result_row : Text → RoutineEntity → At → At
+with_result_row x f here = if f.function then with_row here x f.result false else here
+
+abbrev pub owner_of : RoutineEntity → Owner → Owner
+owner_of f owner = record { name = f.name; level = f.level; functions = owner.functions ++ f.name ∷ [] }
+
+abbrev pub new_block : Known → Texts → At
+new_block known idents = record { known = known; block = new_region idents; rows = []; words = 0 }
+
+abbrev pub place_inside : Text → RoutineEntity → Texts → Known → At
+place_inside x f idents known =
+    (with_parameters f.name f.parameters
+    (with_result_row x f (new_block known (parameter_idents f.parameters ++ idents)), CLEAN)).0
+
+abbrev pub place_after : At → At → Outcome
+place_after here after = Ok (record here { known = after.known })
+
+abbrev pub block_outcome : Owner → Regions → Text → RoutineEntity → Option BlockJudge → At → Outcome
+block_outcome owner outer x f None here = Ok here
+block_outcome owner outer x f (Some b) here =
+    then_on
+    (b.walk (owner_of f owner) (regions_at outer here) (place_inside x f b.idents here.known))
+    (place_after here)
+
+-- a heading that declares its identifier: its name, whether it is forward, and the least kind of that
+pub record Naming : Type 0 where
+  pub name : Name
+  pub forward : Bool
+  pub kind : ℕ
+
+abbrev pub forward_naming : Name → Option Name → Naming
+forward_naming own None = record { name = own; forward = true; kind = WRONG_FORWARD }
+forward_naming own (Some n) = record { name = n; forward = true; kind = CLEAN }
+
+abbrev pub naming_of : RoutineJudge → List RoutineJudge → Naming
+naming_of r later =
+    if is_some r.block
+    then record { name = r.name; forward = false; kind = CLEAN }
+    else forward_naming r.name (block_for r.heading later)
+
+abbrev pub new_kind : Heading → JudgedHeading → ℕ → ℕ
+new_kind h j kind = min j.kind (min kind (kind_unless (not (lacks_result h)) WRONG_TYPE))
+
+abbrev pub routine_declared : RoutineJudge → RoutineEntity → Owner → Regions → At → ℕ → Region × ℕ → Outcome
+routine_declared r f owner outer here kind (own, k) =
+    then_on (item r.name (min kind k) (record here { block = own }))
+    (block_outcome owner outer r.heading.ident f r.block)
+
+abbrev pub routine_named : RoutineJudge → RoutineEntity → Owner → Regions → At → ℕ → Outcome
+routine_named r f owner outer here kind =
+    routine_declared r f owner outer here kind (declare here.block r.heading.ident (RoutineOf f))
+
+abbrev pub new_routine : RoutineJudge → Owner → Regions → At → JudgedHeading → Naming → Outcome
+new_routine r owner outer here j n =
+    routine_named r (routine_entity n.name r.heading owner.level j n.forward) owner outer here
+    (new_kind r.heading j n.kind)
+
+abbrev pub bare_kind : Heading → JudgedHeading → ℕ
+bare_kind h j = min j.kind (kind_unless (is_bare_heading h) WRONG_FORWARD)
+
+abbrev pub routine_item_of : RoutineJudge → List RoutineJudge → Owner → Regions → At → JudgedHeading → Option RoutineEntity → Outcome
+routine_item_of r later owner outer here j None = new_routine r owner outer here j (naming_of r later)
+routine_item_of r later owner outer here j (Some f) =
+    then_on (item r.name (bare_kind r.heading j) here)
+    (block_outcome owner outer r.heading.ident f r.block)
+
+abbrev pub routine_item : RoutineJudge → List RoutineJudge → Owner → Regions → At → Outcome
+routine_item r later owner outer here =
+    routine_item_of r later owner outer here
+    (heading_of here.known.table (regions_at outer here) r.heading)
+    (forward_in r.name (is_some r.block) (entity_in here.block.declared r.heading.ident))
+
+abbrev pub routine_items : Owner → Regions → List RoutineJudge → At → Outcome
+routine_items owner outer [] here = Ok here
+routine_items owner outer (r ∷ rs) here =
+    then_on (routine_item r rs owner outer here) (routine_items owner outer rs)
+
+abbrev pub routine_idents : List RoutineJudge → Texts
+routine_idents [] = []
+routine_idents (r ∷ rs) = r.heading.ident ∷ routine_idents rs
+
+-- ---- a block
+
+abbrev pub known_with_layout : Owner → At → Known
+known_with_layout owner here = record (here.known) {
+  layouts =
+      here.known.layouts
+      ++ record { owner = owner.name; level = owner.level; rows = here.rows; words = here.words } ∷ [];
+}
+
+abbrev pub with_layout : Owner → At → At
+with_layout owner here = record here { known = known_with_layout owner here }
+
+-- the parts of a block; the last is what comes of its body, where the layout of its owner stands
+pub record BlockParts : Type 0 where
+  pub labels : Option (Name × Numbers)
+  pub placed : Numbers
+  pub consts : List DeclJudge
+  pub types : List DeclJudge
+  pub vars : List DeclJudge
+  pub routines : List RoutineJudge
+  pub body : Owner → Regions → At → Outcome
+
+abbrev pub block_idents : BlockParts → Texts
+block_idents b =
+    decl_idents b.consts ++ (decl_idents b.types ++ (decl_idents b.vars ++ routine_idents b.routines))
+
+abbrev pub block_walk : BlockParts → Owner → Regions → At → Outcome
+block_walk b owner outer here =
+    then_on (label_part b.labels b.placed here) (λ h.
+    then_on (decl_items owner outer b.consts h) (λ h.
+    then_on (type_part owner outer b.types h) (λ h.
+    then_on (decl_items owner outer b.vars h) (λ h.
+    then_on (routine_items owner outer b.routines (with_layout owner h)) (λ h.
+    b.body owner outer h)))))
+
+abbrev pub block_of_parts : BlockParts → BlockJudge
+block_of_parts b = record { idents = block_idents b; walk = (λ owner outer here. block_walk b owner outer here) }
+
+-- where bodies are left out
+abbrev pub no_body : Owner → Regions → At → Outcome
+no_body owner outer here = Ok here
+
+-- ---- a program (6.10): its parameters are `input` and `output`, each at most once
+
+abbrev pub are_files : Texts → Bool
+are_files [] = true
+are_files (x ∷ xs) =
+    (bytes_eq x (codes "input") || bytes_eq x (codes "output")) && not (has_ident xs x) && are_files xs
+
+abbrev pub program_name : Name
+program_name = record { 0 = 1 }
+
+abbrev pub program_owner : Owner
+program_owner = record { name = program_name; level = 0; functions = [] }
+
+abbrev pub nothing_known : Known
+nothing_known = record { table = []; domains = []; changed = []; layouts = [] }
+
+abbrev pub program_walk : Texts → BlockJudge → Outcome
+program_walk files b =
+    then_on
+    (item program_name (kind_unless (are_files files) WRONG_PARAMETER) (new_block nothing_known b.idents))
+    (b.walk program_owner (predeclared_region ∷ []))

@@ -1,0 +1,6 @@
+pub mod Answers
+pub mod BlockRules
+pub mod Blocks
+pub mod Headings
+pub mod Labels
+pub mod Layouts

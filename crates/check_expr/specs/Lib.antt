@@ -1,0 +1,4 @@
+pub mod Accesses
+pub mod ExpressionRules
+pub mod Expressions
+pub mod Values

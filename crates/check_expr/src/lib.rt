@@ -1,0 +1,16 @@
+//! Expressions and accesses, judged (ISO 7185:1990, 6.5 and 6.7).
+//!
+//! In `specs/`: what is known of an expression, and operators (`Values`); accesses and calls (`Accesses`); a rule for
+//! each form (`ExpressionRules`), and their folds over the tree (`Expressions`).
+#![tactic(auto)]
+
+mod accesses;
+mod expressions;
+mod notes;
+mod operators;
+
+pub use accesses::{
+    component_place, declared_entity, domain_place, field_place, first_place, opened_field,
+};
+pub use expressions::value_of;
+pub use notes::{Env, Judged, Notes, OpenedRecord, Place, notes_of, notes_of_both, notes_with};
