@@ -24,6 +24,7 @@ use Rattle.check_decl.specs.declared.headings.JudgedHeading.{JudgedHeading}
 use Rattle.check_decl.specs.declared.place.At.{At}
 use Rattle.check_decl.specs.declared.place.Known.{Known}
 use Rattle.check_decl.specs.declared.place.Owner.{Owner}
+use Rattle.check_decl.specs.declared.routines.Naming.{Naming}
 use Rattle.check_decl.specs.Labels.{Numbers, label_part_kind}
 use Rattle.check_decl.specs.Headings.{heading_of, lacks_result, is_bare_heading}
 
@@ -284,12 +285,7 @@ block_outcome owner outer x f (Some b) here =
     (b.walk (owner_of f owner) (regions_at outer here) (place_inside x f b.idents here.known))
     (place_after here)
 
--- a heading that declares its identifier: its name, whether it is forward, and the least kind of that
-pub record Naming : Type 0 where
-  pub name : Name
-  pub forward : Bool
-  pub kind : ℕ
-
+-- the name under which a heading declares its routine, whether it is forward, and the kind of that
 abbrev pub forward_naming : Name → Option Name → Naming
 forward_naming own None = record { name = own; forward = true; kind = WRONG_FORWARD }
 forward_naming own (Some n) = record { name = n; forward = true; kind = CLEAN }
@@ -320,22 +316,22 @@ new_routine r owner outer here j n =
 abbrev pub bare_kind : Heading → JudgedHeading → ℕ
 bare_kind h j = min j.kind (kind_unless (is_bare_heading h) WRONG_FORWARD)
 
-abbrev pub routine_item_of : RoutineJudge → List RoutineJudge → Owner → Regions → At → JudgedHeading → Option RoutineEntity → Outcome
-routine_item_of r later owner outer here j None = new_routine r owner outer here j (naming_of r later)
-routine_item_of r later owner outer here j (Some f) =
+abbrev pub routine_item_of : RoutineJudge → Naming → Owner → Regions → At → JudgedHeading → Option RoutineEntity → Outcome
+routine_item_of r n owner outer here j None = new_routine r owner outer here j n
+routine_item_of r n owner outer here j (Some f) =
     then_on (item r.name (bare_kind r.heading j) here)
     (block_outcome owner outer r.heading.ident f r.block)
 
-abbrev pub routine_item : RoutineJudge → List RoutineJudge → Owner → Regions → At → Outcome
-routine_item r later owner outer here =
-    routine_item_of r later owner outer here
+abbrev pub routine_item : RoutineJudge → Naming → Owner → Regions → At → Outcome
+routine_item r n owner outer here =
+    routine_item_of r n owner outer here
     (heading_of here.known.table (regions_at outer here) r.heading)
     (forward_in r.name (is_some r.block) (entity_in here.block.declared r.heading.ident))
 
 abbrev pub routine_items : Owner → Regions → List RoutineJudge → At → Outcome
 routine_items owner outer [] here = Ok here
 routine_items owner outer (r ∷ rs) here =
-    then_on (routine_item r rs owner outer here) (routine_items owner outer rs)
+    then_on (routine_item r (naming_of r rs) owner outer here) (routine_items owner outer rs)
 
 abbrev pub routine_idents : List RoutineJudge → Texts
 routine_idents [] = []
@@ -350,8 +346,9 @@ known_with_layout owner here = record (here.known) {
       ++ record { owner = owner.name; level = owner.level; rows = here.rows; words = here.words } ∷ [];
 }
 
+-- the rows go into the layout
 abbrev pub with_layout : Owner → At → At
-with_layout owner here = record here { known = known_with_layout owner here }
+with_layout owner here = record here { known = known_with_layout owner here; rows = [] }
 
 -- the parts of a block; the last is what comes of its body, where the layout of its owner stands
 pub record BlockParts : Type 0 where
@@ -385,10 +382,12 @@ no_body owner outer here = Ok here
 
 -- ---- a program (6.10): its parameters are `input` and `output`, each at most once
 
+abbrev pub is_file : Text → Bool
+is_file x = bytes_eq x (codes "input") || bytes_eq x (codes "output")
+
 abbrev pub are_files : Texts → Bool
 are_files [] = true
-are_files (x ∷ xs) =
-    (bytes_eq x (codes "input") || bytes_eq x (codes "output")) && not (has_ident xs x) && are_files xs
+are_files (x ∷ xs) = is_file x && not (has_ident xs x) && are_files xs
 
 abbrev pub program_name : Name
 program_name = record { 0 = 1 }

@@ -4,3 +4,4 @@ pub mod Blocks
 pub mod Headings
 pub mod Labels
 pub mod Layouts
+pub mod Predeclared

@@ -6,11 +6,19 @@
 #![tactic(auto)]
 
 mod headings;
+mod idents;
 mod items;
 mod labels;
 mod place;
+mod predeclared;
+mod routines;
 
 pub use headings::{HeadingWalk, JudgedHeading, heading_of, is_bare_heading, lacks_result};
-pub use items::decl_items;
+pub use idents::{block_idents, type_constants, type_names};
+pub use items::{Judging, decl_items, item};
 pub use labels::label_part;
 pub use place::{At, Known, Layout, Owner, Row};
+pub use predeclared::predeclared_region;
+pub use routines::{
+    Naming, block_for, copy_routine, forward_in, new_block, owner_of, place_inside,
+};
