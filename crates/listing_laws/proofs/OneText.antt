@@ -3,23 +3,15 @@ use Rattle.std.specs.Prelude.{ℕ, List, [], ◌∷◌, ◌++◌}
 use Rattle.std.proofs.Common.{refl}
 use Rattle.std.specs.Bool.{Decides}
 use Rattle.std.specs.List.{AllByRecursion}
-use Rattle.dice_base.specs.Lexemes.{LexesTo, ends, skips, takes}
 use Rattle.dice_base.specs.Tokens.{Toks}
 use Rattle.pascal_tree.specs.declared.levels.TheConstants.{LEVELS}
 use Rattle.pascal_tree.specs.declared.stmt.Stmt.{Stmt}
 use Rattle.pascal_tree.specs.declared.program.Tree.{Tree}
-use Rattle.expression_laws.specs.Formed.{is_formed, is_formed_stmt}
-use Rattle.pascal_tree.specs.Sources.{HasSource, HasStatementSource}
-use Rattle.expression_laws.specs.Spelled.{HasLexeme}
+use Rattle.pascal_tree.specs.Formed.{is_formed, is_formed_stmt}
+use Rattle.pascal_tree.specs.Sources.{HasSource, HasStatementSource, HasLexeme}
+use Rattle.expression_laws.proofs.Words.{lexes-each}
 use Rattle.tree_laws.proofs.Formed.{programs, statements}
 use Rattle.token_texts.proofs.Gaps.{Spaced, nothing, gap, puts, spaced-lexes}
-
--- each token of a text is one of some text
-lexes-each : (rest text : List ℕ) (ts : Toks) → LexesTo rest text ts → AllByRecursion HasLexeme ts
-lexes-each rest text ts ends = tt
-lexes-each rest text ts (skips {more = more} s l) = lexes-each rest more ts l
-lexes-each rest text ts (takes {more = more} {tokens = us} k l) =
-    (record { text = k.lexeme; is = k.is }, lexes-each rest more us l)
 
 -- a blank behind each
 record OneText (ts : Toks) : Type 0 where

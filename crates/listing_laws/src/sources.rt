@@ -1,6 +1,6 @@
 //! Which trees some text spells.
 ghost use Rattle.std.specs.Bool.{Decides};
-ghost use Rattle.expression_laws.specs.Formed.{is_formed, is_formed_stmt};
+ghost use Rattle.pascal_tree.specs.Formed.{is_formed, is_formed_stmt};
 ghost use Rattle.pascal_tree.specs.Sources.{HasSource, HasStatementSource};
 ghost use Rattle.pascal_tree.specs.declared.levels.TheConstants.{LEVELS};
 

@@ -9,9 +9,9 @@ use Rattle.pascal_tree.specs.declared.decl.DeclKind.{DeclKind}
 use Rattle.pascal_tree.specs.declared.decl.Section.{Section}
 use Rattle.pascal_tree.specs.Declarations.{labels_form, constdef_form, typedef_form, vardef_form, decl_at, type_at, section_in, section_form, params_form, procedure_in, function_in, heading_form}
 use Rattle.pascal_tree.specs.Programs.{ended_form, labels_part, decls_part}
-use Rattle.expression_laws.specs.FormedExprs.{all_formed}
-use Rattle.expression_laws.specs.Formed.{type_is_formed, labels_are_formed, const_is_formed, typedef_is_formed, vars_are_formed, decl_is_formed, label_part_is_formed, section_is_formed, heading_is_formed}
-use Rattle.expression_laws.specs.Levels.{type_depth, decl_depth}
+use Rattle.pascal_tree.specs.FormedExprs.{all_formed}
+use Rattle.pascal_tree.specs.Formed.{type_is_formed, labels_are_formed, const_is_formed, typedef_is_formed, vars_are_formed, decl_is_formed, label_part_is_formed, section_is_formed, heading_is_formed}
+use Rattle.pascal_tree.specs.Depth.{type_depth, decl_depth}
 use Rattle.expression_laws.proofs.Words.{and-true}
 use Rattle.expression_laws.proofs.Gives.{Fits, AllFit, Gives, Fitting, AreFormed, some-all, give, choice, behind, weaken, mark, identifier, number, some_items, flat_list}
 use Rattle.statement_laws.proofs.TypeGives.{constant-gives, idents-gives, type-gives}

@@ -13,9 +13,9 @@ use Rattle.pascal_tree.specs.declared.decl.Heading.{Heading}
 use Rattle.pascal_tree.specs.Declarations.{make_section, make_heading, labels_form, constdef_form, typedef_form, vardef_form, decl_at, type_at, section_form, params_form, heading_form}
 use Rattle.pascal_tree.specs.Programs.{ended_form, labels_part, decls_part}
 use Rattle.pascal_tree.specs.Unnamed.{unnamed_decl}
-use Rattle.expression_laws.specs.FormedExprs.{is_identifier, all_formed}
-use Rattle.expression_laws.specs.Formed.{type_is_formed, labels_are_formed, const_is_formed, typedef_is_formed, vars_are_formed, decl_is_formed, label_part_is_formed, section_is_formed, result_is_formed, heading_is_formed}
-use Rattle.expression_laws.specs.Levels.{type_depth, decl_depth}
+use Rattle.pascal_tree.specs.FormedExprs.{is_identifier, all_formed}
+use Rattle.pascal_tree.specs.Formed.{type_is_formed, labels_are_formed, const_is_formed, typedef_is_formed, vars_are_formed, decl_is_formed, label_part_is_formed, section_is_formed, result_is_formed, heading_is_formed}
+use Rattle.pascal_tree.specs.Depth.{type_depth, decl_depth}
 use Rattle.expression_laws.specs.Spelled.{Spelled}
 use Rattle.expression_laws.proofs.Words.{and-parts}
 use Rattle.expression_laws.proofs.Gives.{Fits, AllFit}

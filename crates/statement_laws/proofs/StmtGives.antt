@@ -11,8 +11,8 @@ use Rattle.pascal_tree.specs.declared.stmt.StmtKind.TheVariants.{rolls-Empty, ro
 use Rattle.pascal_tree.specs.Expressions.{expr_at}
 use Rattle.pascal_tree.specs.Declarations.{no_name}
 use Rattle.pascal_tree.specs.Statements.{make_stmt, assign_form, call_form, compound_in, else_form, if_in, arm_form, case_in, while_in, repeat_in, for_in, with_in, kind_form, stmt_form, stmt_at}
-use Rattle.expression_laws.specs.FormedExprs.{expr_is_formed}
-use Rattle.expression_laws.specs.Formed.{formed_label, arm_is_formed, stmt_is_formed}
+use Rattle.pascal_tree.specs.FormedExprs.{expr_is_formed}
+use Rattle.pascal_tree.specs.Formed.{formed_label, arm_is_formed, stmt_is_formed}
 use Rattle.pascal_tree.specs.Openness.{Ending, kind_ending, arm_ending, stmt_ending}
 use Rattle.pascal_tree.specs.Depth.{expr_depth, kind_depth, arm_depth, stmt_depth}
 use Rattle.expression_laws.proofs.Words.{and-parts, and-true}

@@ -6,8 +6,8 @@ use Rattle.pascal_tree.specs.declared.stmt.Stmt.{Stmt, Stmt-F, roll-Stmt, map-St
 use Rattle.pascal_tree.specs.declared.stmt.StmtKind.{StmtKind, StmtKind-F, roll-StmtKind, map-StmtKind}
 use Rattle.pascal_tree.specs.declared.stmt.Arm.{Arm, Arm-F, roll-Arm, map-Arm}
 use Rattle.pascal_tree.specs.declared.stmt.StmtKind.TheFolds.{fold-roll-StmtKind, fold-roll-Arm, fold-roll-Stmt}
-use Rattle.expression_laws.specs.FormedExprs.{all_formed, some_formed}
-use Rattle.expression_laws.specs.Formed.{formed_kind, formed_arm, formed_stmt, kind_is_formed, arm_is_formed, stmt_is_formed}
+use Rattle.pascal_tree.specs.FormedExprs.{all_formed, some_formed}
+use Rattle.pascal_tree.specs.Formed.{formed_kind, formed_arm, formed_stmt, kind_is_formed, arm_is_formed, stmt_is_formed}
 use Rattle.pascal_tree.specs.Openness.{Ending, ending_of_kind, ending_of_arm, ending_of_stmt, kind_ending, arm_ending, stmt_ending}
 use Rattle.pascal_tree.specs.Depth.{depth_of_kind, depth_of_arm, depth_of_stmt, kind_depth, arm_depth, stmt_depth}
 use Rattle.expression_laws.proofs.Words.{and-parts, and-true}

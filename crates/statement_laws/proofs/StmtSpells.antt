@@ -18,8 +18,8 @@ use Rattle.pascal_tree.specs.Expressions.{expr_at}
 use Rattle.pascal_tree.specs.Statements.{directions, make_stmt, make_arm, compound_in, else_form, arm_form, kind_form, stmt_form, stmt_at}
 use Rattle.pascal_tree.specs.Unnamed as without
 use Rattle.pascal_tree.specs.Unnamed.{unnamed_kind, unnamed_arm, unnamed_stmt}
-use Rattle.expression_laws.specs.FormedExprs.{expr_is_formed}
-use Rattle.expression_laws.specs.Formed.{formed_label, arm_is_formed, stmt_is_formed}
+use Rattle.pascal_tree.specs.FormedExprs.{expr_is_formed}
+use Rattle.pascal_tree.specs.Formed.{formed_label, arm_is_formed, stmt_is_formed}
 use Rattle.pascal_tree.specs.Openness.{Ending, kind_ending, arm_ending, stmt_ending, is_open}
 use Rattle.pascal_tree.specs.Depth.{expr_depth, kind_depth, arm_depth, stmt_depth}
 use Rattle.expression_laws.specs.Spelled.{Spelled}

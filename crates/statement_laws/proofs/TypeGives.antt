@@ -9,9 +9,9 @@ use Rattle.pascal_tree.specs.declared.typing.TypeText.TheVariants as typed
 use Rattle.pascal_tree.specs.declared.typing.TypeText.TheVariants.{rolls-Named, rolls-Enumeration, rolls-Range, rolls-Pointer, rolls-Array, rolls-SetOf, rolls-RecordOf}
 use Rattle.pascal_tree.specs.declared.typing.FieldText.{FieldText}
 use Rattle.pascal_tree.specs.Declarations.{constant_form, idents_form, simple_form, field_form, record_in, array_in, set_in, struct_form, type_form, simple_at, type_at}
-use Rattle.expression_laws.specs.FormedExprs.{some_formed}
-use Rattle.expression_laws.specs.Formed.{are_identifiers, constant_is_formed, type_is_formed, is_simple_type, field_is_formed}
-use Rattle.expression_laws.specs.Levels.{type_depth, field_depth}
+use Rattle.pascal_tree.specs.FormedExprs.{some_formed}
+use Rattle.pascal_tree.specs.Formed.{are_identifiers, constant_is_formed, type_is_formed, is_simple_type, field_is_formed}
+use Rattle.pascal_tree.specs.Depth.{type_depth, field_depth}
 use Rattle.expression_laws.proofs.Words.{and-parts, and-true}
 use Rattle.expression_laws.proofs.Gives.{Fits, AllFit, SomeFit, Gives, Fitting, some-all, give, refused, choice, behind, weaken, operator, mark, identifier, number, string, list, ended, flat_list}
 use Rattle.expression_laws.proofs.Layers.{made, variant}

@@ -4,8 +4,8 @@ use Rattle.std.proofs.Common.{refl, ap}
 use Rattle.pascal_tree.specs.declared.typing.TypeText.{TypeText, TypeText-F, roll-TypeText, map-TypeText}
 use Rattle.pascal_tree.specs.declared.typing.FieldText.{FieldText, FieldText-F, roll-FieldText, map-FieldText}
 use Rattle.pascal_tree.specs.declared.typing.TypeText.TheFolds.{fold-roll-TypeText, fold-roll-FieldText}
-use Rattle.expression_laws.specs.Formed.{TypeShape, is_simple, shape_of_type, formed_field, type_shape, field_is_formed, type_is_formed, is_simple_type}
-use Rattle.expression_laws.specs.Levels.{depth_of_type, depth_of_field, type_depth, field_depth}
+use Rattle.pascal_tree.specs.Formed.{TypeShape, is_simple, shape_of_type, formed_field, type_shape, field_is_formed, type_is_formed, is_simple_type}
+use Rattle.pascal_tree.specs.Depth.{depth_of_type, depth_of_field, type_depth, field_depth}
 use Rattle.expression_laws.proofs.Layers.{Layer}
 
 -- ---- a layer of each, with trees in the places of its parts

@@ -18,11 +18,10 @@ use Rattle.pascal_tree.specs.Expressions.{expr_at}
 use Rattle.pascal_tree.specs.Declarations.{no_name, type_at}
 use Rattle.pascal_tree.specs.Statements.{make_stmt, stmt_at}
 use Rattle.pascal_tree.specs.Programs.{make_block, make_routine, block_form, routine_form, files_form, body_at, routine_at, block_at, program_at}
-use Rattle.expression_laws.specs.FormedExprs.{is_identifier, all_formed}
-use Rattle.expression_laws.specs.Formed.{type_is_formed, is_compound, is_body, heading_is_formed, label_part_is_formed, const_is_formed, typedef_is_formed, vars_are_formed, routine_is_formed, program_is_formed}
+use Rattle.pascal_tree.specs.FormedExprs.{is_identifier, all_formed}
+use Rattle.pascal_tree.specs.Formed.{type_is_formed, is_compound, is_body, heading_is_formed, label_part_is_formed, const_is_formed, typedef_is_formed, vars_are_formed, routine_is_formed, program_is_formed}
 use Rattle.pascal_tree.specs.Openness.{routine_is_paired, program_is_paired}
-use Rattle.pascal_tree.specs.Depth.{stmt_depth}
-use Rattle.expression_laws.specs.Levels.{type_depth, decl_depth, block_depth, routine_depth, tree_levels}
+use Rattle.pascal_tree.specs.Depth.{stmt_depth, type_depth, decl_depth, block_depth, routine_depth, tree_levels}
 use Rattle.expression_laws.proofs.Words.{and-parts, and-true}
 use Rattle.expression_laws.proofs.Gives.{Fits, AllFit, Gives, Fitting, AreFormed, give, refused, choice, behind, mark, identifier, items, flat_list}
 use Rattle.expression_laws.proofs.Layers.{made}

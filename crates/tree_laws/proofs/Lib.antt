@@ -4,4 +4,5 @@ pub mod BlockSpells
 pub mod Folds
 pub mod Formed
 pub mod Nameless
+pub mod Numbered
 pub mod Renamed

@@ -9,11 +9,11 @@ use Rattle.pascal_tree.specs.declared.stmt.Arm.{Arm, Arm-F, fold-Arm}
 use Rattle.pascal_tree.specs.declared.stmt.StmtKind.TheFolds.{map-StmtKind, fold-roll-StmtKind, fold-roll-Arm, fold-roll-Stmt}
 use Rattle.pascal_tree.specs.Names.{stmt_renaming}
 use Rattle.pascal_tree.specs.Naming.{Numbering, list_numbering, kind_in_turn, arm_in_turn, stmt_in_turn, kind_numbering, arm_numbering, stmt_numbering}
-use Rattle.expression_laws.specs.Formed.{formed_kind, formed_arm, formed_stmt, is_compound, is_body, stmt_is_formed}
+use Rattle.pascal_tree.specs.Formed.{formed_kind, formed_arm, formed_stmt, is_compound, is_body, stmt_is_formed}
 use Rattle.pascal_tree.specs.Depth.{depth_of_kind, depth_of_arm, depth_of_stmt, stmt_depth}
 use Rattle.expression_laws.proofs.Words.{and-parts, and-true}
 use Rattle.statement_laws.proofs.StmtLayers.{KindLayer, StmtLayer}
-use Rattle.tree_laws.proofs.Folds.{Agree, agreed_kind}
+use Rattle.tree_laws.proofs.Folds.{Agree, agreed, agreed_kind}
 
 -- ---- what is folded by steps of which none reads a name
 
@@ -101,6 +101,11 @@ module _ {L B T : Type 0} (kind : StmtKind-F L B T → L) (arm : Arm-F L B T →
           ∙ ap (λ k. stmt (record { name = record { 0 = n }; label = y.label; kind = k })) (y.kind.2 (n + 1))
           ∙ nameless _ y.name y.label y.kind.1;
     }
+
+    pub stmt-numbered : (x : Stmt) (n : ℕ)
+        → fold-Stmt L B T kind arm stmt (stmt_numbering x n).0 ≡ fold-Stmt L B T kind arm stmt x
+    unfolding stmt_numbering
+    stmt-numbered x n = agreed kind_in_turn arm_in_turn stmt_in_turn kind arm stmt KindIs ArmIs StmtIs same x n
 
     kind-renamed : (k : StmtKind) (n : ℕ) → of_kind (kind_numbering k n).0 ≡ of_kind k
     unfolding kind_numbering

@@ -9,10 +9,8 @@ use Rattle.dice_base.specs.declared.name.Name.{Name}
 use Rattle.pascal_tree.specs.declared.decl.Heading.{Heading}
 use Rattle.pascal_tree.specs.declared.decl.Block.{Block, out-Block, roll-out-Block}
 use Rattle.pascal_tree.specs.declared.decl.Routine.{Routine, out-Routine, roll-Routine, roll-out-Routine}
-use Rattle.expression_laws.specs.FormedExprs.{all_formed, some_formed}
-use Rattle.expression_laws.specs.Formed.{kind_is_formed, arm_is_formed, stmt_is_formed, is_compound, is_body, block_is_formed, routine_is_formed}
-use Rattle.expression_laws.specs.FormedExprs.{formed_if_any}
-use Rattle.expression_laws.specs.Formed.{formed_label, constant_is_formed, heading_is_formed, label_part_is_formed, part_is_formed, const_is_formed, typedef_is_formed, vars_are_formed}
+use Rattle.pascal_tree.specs.FormedExprs.{all_formed, some_formed, formed_if_any}
+use Rattle.pascal_tree.specs.Formed.{kind_is_formed, arm_is_formed, stmt_is_formed, is_compound, is_body, block_is_formed, routine_is_formed, formed_label, constant_is_formed, heading_is_formed, label_part_is_formed, part_is_formed, const_is_formed, typedef_is_formed, vars_are_formed}
 use Rattle.tree_edit.specs.Place.{change, change_if, change_any, change_in_arm, change_in_kind, change_in_stmt, put_at, declared, with_routines, with_body, after_decls, change_in_routine, put_in_block, is_here, leads_in, leads_to_body}
 use Rattle.expression_laws.proofs.Words.{and-parts, and-true}
 use Rattle.statement_laws.proofs.StmtLayers.{KindLayer, StmtLayer, kind_formed, kind-formed, arm-formed, stmt-formed}

@@ -19,10 +19,9 @@ use Rattle.pascal_tree.specs.declared.decl.Block.{Block, Block-F, fold-Block}
 use Rattle.pascal_tree.specs.declared.decl.Routine.{Routine, Routine-F, fold-Routine}
 use Rattle.pascal_tree.specs.declared.program.Tree.{Tree}
 use Rattle.pascal_tree.specs.declared.levels.TheConstants.{LEVELS}
-use Rattle.pascal_tree.specs.Depth.{stmt_depth}
-use Rattle.expression_laws.specs.Levels.{decl_depth, routine_depth, tree_levels}
+use Rattle.pascal_tree.specs.Depth.{stmt_depth, decl_depth, routine_depth, tree_levels}
 use Rattle.pascal_tree.specs.Openness.{is_paired, routine_is_paired, program_is_paired}
-use Rattle.expression_laws.specs.FormedExprs.{is_identifier, is_number, is_string, all_formed, some_formed, formed_if_any, access_is_formed, arg_is_formed, expr_is_formed}
+use Rattle.pascal_tree.specs.FormedExprs.{is_identifier, is_number, is_string, all_formed, some_formed, formed_if_any, access_is_formed, arg_is_formed, expr_is_formed}
 
 -- one identifier or more, with commas between (6.4.2.3)
 abbrev pub are_identifiers : List (List ℕ) → Bool

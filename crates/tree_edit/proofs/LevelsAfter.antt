@@ -10,8 +10,7 @@ use Rattle.pascal_tree.specs.declared.stmt.Arm.{Arm, out-Arm, roll-out-Arm}
 use Rattle.pascal_tree.specs.declared.decl.Heading.{Heading}
 use Rattle.pascal_tree.specs.declared.decl.Block.{Block, out-Block, roll-out-Block}
 use Rattle.pascal_tree.specs.declared.decl.Routine.{Routine, out-Routine, roll-Routine, roll-out-Routine}
-use Rattle.pascal_tree.specs.Depth.{most, depth_if_any, kind_depth, arm_depth, stmt_depth}
-use Rattle.expression_laws.specs.Levels.{decls_depth, block_depth, routine_depth}
+use Rattle.pascal_tree.specs.Depth.{most, depth_if_any, kind_depth, arm_depth, stmt_depth, decls_depth, block_depth, routine_depth}
 use Rattle.tree_edit.specs.Place.{change, change_if, change_any, change_in_arm, change_in_kind, change_in_stmt, put_at, declared, with_routines, with_body, after_decls, change_in_routine, put_in_block}
 use Rattle.statement_laws.proofs.StmtLayers.{KindLayer, kind_levels, kind-depth, arm-depth, stmt-depth}
 use Rattle.tree_laws.proofs.BlockLayers.{block-depth, routine-depth}
