@@ -1,6 +1,7 @@
 //! The draft: its listing, its edits, and how it becomes the present program.
-ghost use Rattle.std.specs.Prelude.{◌≡◌, ◌++◌, ℕ, List, Some, OnOk};
+ghost use Rattle.std.specs.Prelude.{◌≡◌, ◌++◌, ℕ, true, List, Some, OnOk};
 ghost use Rattle.pascal_tree.specs.declared.program.Tree.{Tree};
+ghost use Rattle.pascal_tree.specs.Formed.{is_formed_stmt};
 ghost use Rattle.pdp11_machine.specs.State.{MachineState};
 ghost use Rattle.simple_form.specs.Simple.{resolution_of};
 ghost use Rattle.dice_command.specs.Command.{Replace};
@@ -29,7 +30,7 @@ impl Session {
         let Some(draft) = &self.draft else {
             return refuse(alloc, out, b"no program");
         };
-        let text = print_program(alloc, draft.tree(), true)?;
+        let text = print_program(alloc, draft, true)?;
         out.append(alloc, text.bytes())
     }
 
@@ -57,6 +58,7 @@ impl Session {
         stmt: &Stmt,
         out: &mut Text,
     ) -> Result<(), NoMemory>
+        requires { is_formed_stmt stmt.now ≡ true }
         ensures { OnOk result ((w : World) (machine : MachineState) → IsSessionOf w self.old machine
             → Became (into_draft w name stmt.now) out.old out.new machine self.new machine) }
     {

@@ -254,8 +254,8 @@ sign_lexeme k h = record {
 -- ---- the tokens of a text
 
 -- each is one of some text
-pub lexes-each : (rest text : List ℕ) (ts : Toks) → LexesTo rest text ts → AllByRecursion HasLexeme ts
-lexes-each rest text ts ends = tt
-lexes-each rest text ts (skips {more = more} s l) = lexes-each rest more ts l
-lexes-each rest text ts (takes {more = more} {tokens = us} k l) =
-    (record { text = k.lexeme; is = k.is }, lexes-each rest more us l)
+pub lexes_each : (rest text : List ℕ) (ts : List TokenKind) → LexesTo rest text ts → AllByRecursion HasLexeme ts
+lexes_each rest text ts ends = tt
+lexes_each rest text ts (skips {more = more} s l) = lexes_each rest more ts l
+lexes_each rest text ts (takes {more = more} {tokens = us} k l) =
+    (record { text = k.lexeme; is = k.is }, lexes_each rest more us l)

@@ -112,10 +112,10 @@ impl Program {
     }
 
     /// The program parameters.
-    pub fn files(&self) -> &Items<Text>
+    pub fn files(&self) -> &[Text]
         ensures { result.now ≡ self.now.files }
     {
-        &self.tree.get().files
+        self.tree.get().files.as_slice()
     }
 
     /// The declarations and the body.

@@ -33,7 +33,7 @@ fn with_stmt(
     ensures { IfOk result (λ p. p ≡ with_stmt path.now (named.now, next) program.now) }
 {
     let ident = program.ident().copy(alloc)?;
-    let files = copy_texts(alloc, program.files().as_slice())?;
+    let files = copy_texts(alloc, program.files())?;
     let block = put_block(alloc, program.block(), path, named)?;
     Program::new(alloc, ident, files, block, next)
 }
