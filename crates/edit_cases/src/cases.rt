@@ -194,7 +194,7 @@ fn items_are_printed(rt: HostRuntime) -> Result<(), Fail> {
     let is = [
         named.bytes() == NAMED.as_bytes(),
         plain.bytes() == PLAIN.as_bytes(),
-        part.bytes() == b"begin\n  ;\nend\n",
+        part.bytes() == b"begin\n  ;\nend\n".as_slice(),
     ];
     assert!(rt; is == [true; 3]);
     Ok(())
