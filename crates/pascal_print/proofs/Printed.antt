@@ -20,8 +20,8 @@ pub printed-back : (names : Bool) (p : Tree) → IsProgram p → (r : Result (Li
     → IfOk r (λ text. names ≡ false → ReadsBack p text)
 printed-back names p is (Err e) h = tt
 printed-back false p is (Ok text) h =
-    λ e. subst (ReadsBack p) (sym h) (reads_back p ((program-sources p).0 is.formed))
-printed-back true p is (Ok text) h = λ e. absurd cc
+    λ e. subst (λ t. ReadsBack p t) (sym h) (reads_back p ((program-sources p).0 is.formed))
+printed-back true p is (Ok text) h = λ e. absurd (cc e)
 
 small-names : (next : ℕ) → next ≤ 4294967295 → (ns : List ℕ) → AllByRecursion (IsNameBelow next) ns
     → AllByRecursion (λ n. n < 2 ^ 32) ns
@@ -37,4 +37,4 @@ printed-names names p is (Err e) h = tt
 printed-names true p is (Ok text) h =
     λ e. subst (λ t. first_column t ≡ program_names p) (sym h)
     (lists_names p ((program-sources p).0 is.formed) (small-names p.next is.named.small (program_names p) is.named.within))
-printed-names false p is (Ok text) h = λ e. absurd cc
+printed-names false p is (Ok text) h = λ e. absurd (cc e)
