@@ -4,6 +4,7 @@ use Rattle.pascal_scanner.specs.declared.fault.ScanFault.TheVariants as scan
 use Rattle.token_reader.specs.declared.fault.ParseFault.TheVariants as parse
 use Rattle.pascal_tree.specs.declared.program.Tree.{Tree}
 use Rattle.pascal_tree.specs.declared.stmt.Stmt.{Stmt}
+use Rattle.pascal_tree.specs.Formed.{is_formed_stmt}
 use Rattle.dice_command.specs.declared.command.CommandFault.{CommandFault}
 use Rattle.dice_command.specs.declared.command.CommandFault.TheVariants.{Scan, Parse}
 use Rattle.dice_command.specs.declared.command.Command.{Command}
@@ -62,9 +63,10 @@ abbrev pub is_quit : Command → Bool
 is_quit command.Quit = true
 is_quit other = false
 
--- numbers are in range, and a refusal is none for want of memory
+-- numbers are in range, a statement is one that some text spells, and a refusal is none for want of memory
 abbrev pub IsWellRead : Command → Type 0
-IsWellRead (command.Replace name s) = (1 ≤ name.0) × (name.0 ≤ 1000000)
+IsWellRead (command.Replace name s) =
+    (1 ≤ name.0) × (name.0 ≤ 1000000) × (is_formed_stmt s ≡ true)
 IsWellRead (command.Run k) = (1 ≤ k) × (k ≤ 1000000)
 IsWellRead (command.Bad fault) = IsTold fault
 IsWellRead other = Unit {0}

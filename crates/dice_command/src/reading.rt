@@ -1,5 +1,6 @@
 //! Texts that are read: programs that are to be loaded, and statements that are to stand in the place of others.
-ghost use Rattle.std.specs.Prelude.{◌≡◌, ◌-◌};
+ghost use Rattle.std.specs.Prelude.{◌≡◌, ◌-◌, true, IfOk};
+ghost use Rattle.pascal_tree.specs.Formed.{is_formed_stmt};
 ghost use Rattle.pascal_tree.specs.declared.levels.TheConstants.{LEVELS};
 ghost use Rattle.pascal_tree.specs.Naming.{numbered_program};
 ghost use Rattle.pascal_tree.specs.Programs.{program_at};
@@ -25,7 +26,8 @@ pub(crate) fn read_program(alloc: Global, text: &[u8]) -> Result<Program, Comman
 
 /// The statement that a text is, with its names.
 pub(crate) fn read_statement(alloc: Global, text: &[u8]) -> Result<Stmt, CommandFault>
-    ensures { TextSays stmt_at LEVELS named_stmt text.now result }
+    ensures says { TextSays stmt_at LEVELS named_stmt text.now result }
+    ensures formed { IfOk result (λ stmt. is_formed_stmt stmt ≡ true) }
 {
     let tokens = scan(alloc, text)?;
     let stmt = parse_statement(alloc, &tokens)?;

@@ -116,7 +116,7 @@ pub record Around : Type 0 where
 pub record ActsOn (line : List ℕ) (quit : Bool) (a : Around) : Type 0 where
   pub answered : AnsweredAll a.world (line_entries a.at line) a.session a.machine a.held a.held_then
   pub text : HasText (line_position a.at line) a.text
-  pub quit : IsQuit quit (line_position a.at line)
+  pub ended : IsQuit quit (line_position a.at line)
 
 -- the last line was acted on, if there is one
 pub record ActsOnLast (lines : List (List ℕ)) (a : Around) : Type 0 where

@@ -10,7 +10,7 @@ use Rattle.pascal_semantics.specs.declared.form.Statement.{Statement}
 use Rattle.pascal_semantics.specs.Charge.{program_charge, charges_of}
 use Rattle.pascal_semantics.specs.State.{loaded_state}
 use Rattle.pascal_semantics.specs.Valid.{IsProgram, code_room}
-use Rattle.pascal_print.specs.Listing.{listing}
+use Rattle.tree_listing.specs.Listing.{listing}
 use Rattle.simple_form.specs.Simple.{resolution_of}
 use Rattle.tree_edit.specs.declared.fault.EditFault.{EditFault}
 use Rattle.tree_edit.specs.Edited.{replaced_program}

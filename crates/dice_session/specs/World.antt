@@ -18,7 +18,7 @@ use Rattle.simple_form.specs.Simple.{resolution_of}
 use Rattle.tree_edit.specs.declared.fault.EditFault.{EditFault}
 use Rattle.tree_edit.specs.declared.fault.EditFault.TheVariants as edit
 use Rattle.tree_edit.specs.Edited.{replaced_program}
-use Rattle.pascal_print.specs.Listing.{listing}
+use Rattle.tree_listing.specs.Listing.{listing}
 use Rattle.dice_command.specs.declared.command.CommandFault.{CommandFault}
 use Rattle.dice_command.specs.declared.command.CommandFault.TheVariants.{LineTooLong, NotACommand, BadNumber, Scan, Parse}
 use Rattle.dice_command.specs.declared.command.Command.{Command}

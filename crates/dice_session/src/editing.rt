@@ -1,6 +1,7 @@
 //! The draft: its listing, its edits, and how it becomes the present program.
-ghost use Rattle.std.specs.Prelude.{◌≡◌, ◌++◌, ℕ, List, Some, OnOk};
+ghost use Rattle.std.specs.Prelude.{◌≡◌, ◌++◌, ℕ, true, List, Some, OnOk};
 ghost use Rattle.pascal_tree.specs.declared.program.Tree.{Tree};
+ghost use Rattle.pascal_tree.specs.Formed.{is_formed_stmt};
 ghost use Rattle.pdp11_machine.specs.State.{MachineState};
 ghost use Rattle.simple_form.specs.Simple.{resolution_of};
 ghost use Rattle.dice_session.specs.Readings.{AreNamed};
@@ -27,7 +28,7 @@ impl Session {
         let Some(draft) = &self.draft else {
             return refuse(alloc, out, b"no program");
         };
-        let text = print_program(alloc, draft.tree(), true)?;
+        let text = print_program(alloc, draft, true)?;
         out.append(alloc, text.bytes())
     }
 
@@ -39,6 +40,7 @@ impl Session {
         stmt: &Stmt,
         out: &mut Text,
     ) -> Result<(), NoMemory>
+        requires { is_formed_stmt stmt.now ≡ true }
         ensures { OnOk result ((w : World) (machine : MachineState) → IsSessionOf w self.old machine
             → Became (if_program w.draft w (replace_reply w name.0 stmt.now)) out.old out.new
             machine self.new machine) }

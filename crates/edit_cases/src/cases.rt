@@ -1,119 +1,47 @@
-//! `program a; var i: integer; begin begin ; end; i := 1 end.`, searched, copied and edited.
+//! `program a; var i: integer; begin begin ; end; i := 1 end.`, searched, copied, edited and printed.
+ghost use Rattle.std.specs.Prelude.{◌≡◌, true, IfOk};
+ghost use Rattle.pascal_tree.specs.Formed.{is_formed_stmt};
+
 use dice_base::{Name, NoMemory, Text};
-use pascal_tree::{
-    Access, Block, Decl, DeclKind, Expr, Factor, Prefix, Stmt, StmtKind, SumExpr, Term, Tree,
-    TypeText,
-};
+use pascal_parser::{parse_program, parse_statement};
+use pascal_print::{print_program, print_statement};
+use pascal_scanner::scan;
+use pascal_tree::{Stmt, StmtKind};
 use program_tree::{Item, Program};
-use sqlite_items::{Boxed, Items};
+use sqlite_items::Boxed;
 use std::alloc::Global;
 use std::test::Fail;
 use tree_edit::{EditFault, replace};
-use tree_names::number_program;
 
-fn unnamed(kind: StmtKind) -> Stmt {
-    Stmt {
-        name: Name(0),
-        label: None,
-        kind,
-    }
+// The program, with the names 1 to 7 in the order of the text.
+#[tactic(auto, using(expression_laws::proofs::Words::lexes_each))]
+fn program(alloc: Global) -> Result<Program, Fail> {
+    let text = b"program a; var i: integer; begin begin ; end; i := 1 end.";
+    let tokens = scan(alloc, text)?;
+    let program = parse_program(alloc, &tokens)?;
+    Ok(program)
 }
 
-// A compound statement of so many empty ones.
-fn compound(alloc: Global, count: u32) -> Result<Stmt, NoMemory> {
-    let mut stmts = Items::new(alloc);
-    for _ in 0..count {
-        stmts.push(unnamed(StmtKind::Empty))?;
-    }
-    Ok(unnamed(StmtKind::Compound(stmts)))
-}
-
-// Compound statements in one another, and an empty statement inside: one level more than there are compounds.
-fn nested(alloc: Global, compounds: u32) -> Result<Stmt, NoMemory> {
-    let mut stmt = unnamed(StmtKind::Empty);
-    for _ in 0..compounds {
-        let mut stmts = Items::new(alloc);
-        stmts.push(stmt)?;
-        stmt = unnamed(StmtKind::Compound(stmts));
-    }
+#[tactic(auto, using(expression_laws::proofs::Words::lexes_each))]
+fn statement(alloc: Global, text: &[u8]) -> Result<Boxed<Stmt>, Fail>
+    ensures { IfOk result (λ stmt. is_formed_stmt stmt ≡ true) }
+{
+    let tokens = scan(alloc, text)?;
+    let stmt = parse_statement(alloc, &tokens)?;
+    let stmt = Boxed::new(alloc, stmt)?;
     Ok(stmt)
 }
 
-fn one(alloc: Global) -> Expr {
-    let first = Term {
-        first: Factor::Number(1),
-        rest: Items::new(alloc),
-    };
-    let first = SumExpr {
-        prefix: Prefix::Without,
-        first,
-        rest: Items::new(alloc),
-    };
-    Expr { first, rest: None }
-}
-
-// `i := 1`
-fn assignment(alloc: Global) -> Result<Stmt, NoMemory> {
-    let ident = Text::from_slice(alloc, b"i")?;
-    let parts = Items::new(alloc);
-    Ok(unnamed(StmtKind::Assign(Access { ident, parts }, one(alloc))))
-}
-
-// `if 1 then`, and an empty statement.
-fn open_choice(alloc: Global) -> Result<Boxed<Stmt>, NoMemory> {
-    let yes = Boxed::new(alloc, unnamed(StmtKind::Empty))?;
-    let choice = Boxed::new(alloc, unnamed(StmtKind::If(one(alloc), yes, None)))?;
-    Ok(choice)
-}
-
-// `if 1 then while 1 do else`, with an empty statement behind `do` and behind `else`.
-fn choice(alloc: Global) -> Result<Boxed<Stmt>, NoMemory> {
-    let body = Boxed::new(alloc, unnamed(StmtKind::Empty))?;
-    let no = Boxed::new(alloc, unnamed(StmtKind::Empty))?;
-    let yes = Boxed::new(alloc, unnamed(StmtKind::While(one(alloc), body)))?;
-    let choice = Boxed::new(alloc, unnamed(StmtKind::If(one(alloc), yes, Some(no))))?;
-    Ok(choice)
-}
-
-fn body(alloc: Global) -> Result<Stmt, NoMemory> {
-    let mut stmts = Items::new(alloc);
-    stmts.push(compound(alloc, 2)?)?;
-    stmts.push(assignment(alloc)?)?;
-    Ok(unnamed(StmtKind::Compound(stmts)))
-}
-
-// `i: integer`
-fn variables(alloc: Global) -> Result<Items<Decl>, NoMemory> {
-    let mut idents = Items::new(alloc);
-    idents.push(Text::from_slice(alloc, b"i")?)?;
-    let shape = TypeText::Named(Text::from_slice(alloc, b"integer")?);
-    let mut vars = Items::new(alloc);
-    vars.push(Decl {
-        name: Name(0),
-        kind: DeclKind::VarDecl(idents, shape),
-    })?;
-    Ok(vars)
-}
-
-// The program, with the names 1 to 7 in the order of the text.
-fn program(alloc: Global) -> Result<Program, NoMemory> {
-    let ident = Text::from_slice(alloc, b"a")?;
-    let vars = variables(alloc)?;
-    let body = body(alloc)?;
-    let tree = Tree {
-        ident,
-        files: Items::new(alloc),
-        block: Block {
-            labels: None,
-            consts: Items::new(alloc),
-            types: Items::new(alloc),
-            vars,
-            routines: Items::new(alloc),
-            body,
-        },
-        next: 0,
-    };
-    Program::from_numbered(alloc, number_program(alloc, &tree)?)
+// Compound statements in one another, and an empty statement inside: one level more than there are compounds.
+fn nested(alloc: Global, compounds: u32) -> Result<Text, NoMemory> {
+    let mut text = Text::new(alloc);
+    for _ in 0..compounds {
+        text.append(alloc, b"begin ")?;
+    }
+    for _ in 0..compounds {
+        text.append(alloc, b"end ")?;
+    }
+    Ok(text)
 }
 
 // A letter for what has the name.
@@ -175,16 +103,17 @@ fn items_are_found_by_name(rt: HostRuntime) -> Result<(), Fail> {
 #[test]
 fn a_statement_is_replaced(rt: HostRuntime) -> Result<(), Fail> {
     let alloc = rt.alloc();
-    let empty = unnamed(StmtKind::Empty);
-    let deep = nested(alloc, 61)?;
-    let pair = compound(alloc, 2)?;
+    let empty = statement(alloc, b"")?;
+    let text = nested(alloc, 61)?;
+    let deep = statement(alloc, text.bytes())?;
+    let pair = statement(alloc, b"begin ; end")?;
     let mut program = program(alloc)?;
     let answers = [
-        replace(alloc, &mut program, Name(8), &empty),
-        replace(alloc, &mut program, Name(2), &empty),
-        replace(alloc, &mut program, Name(3), &empty),
-        replace(alloc, &mut program, Name(5), &deep),
-        replace(alloc, &mut program, Name(5), &pair),
+        replace(alloc, &mut program, Name(8), empty.get()),
+        replace(alloc, &mut program, Name(2), empty.get()),
+        replace(alloc, &mut program, Name(3), empty.get()),
+        replace(alloc, &mut program, Name(5), deep.get()),
+        replace(alloc, &mut program, Name(5), pair.get()),
     ];
     let next = program.next_name();
     let letters = [3, 4, 5, 6, 7, 8, 9, 10].map(|name| letter(&program, name));
@@ -205,9 +134,9 @@ fn a_statement_is_replaced(rt: HostRuntime) -> Result<(), Fail> {
 #[test]
 fn an_else_stays_with_its_if(rt: HostRuntime) -> Result<(), Fail> {
     let alloc = rt.alloc();
-    let open = open_choice(alloc)?;
-    let choice = choice(alloc)?;
-    let pair = Boxed::new(alloc, compound(alloc, 2)?)?;
+    let open = statement(alloc, b"if 1 then")?;
+    let choice = statement(alloc, b"if 1 then while 1 do else")?;
+    let pair = statement(alloc, b"begin ; end")?;
     let mut program = program(alloc)?;
     // The `if` is 5, the `while` 8, what it repeats 9, and the second branch 10.
     let answers = [
@@ -228,5 +157,45 @@ fn an_else_stays_with_its_if(rt: HostRuntime) -> Result<(), Fail> {
         Ok(()),
     ];
     assert!(rt; answers == wanted && letters == *b"sscseee-" && next == 14);
+    Ok(())
+}
+
+const NAMED: &str = "     1 program a ;
+       var
+     2   i : integer ;
+     3   begin
+     4     begin
+     5       ;
+     6
+           end ;
+     7     i := 1
+         end .
+";
+
+const PLAIN: &str = "program a ;
+var
+  i : integer ;
+  begin
+    begin
+      ;
+    end ;
+    i := 1
+  end .
+";
+
+#[test]
+fn items_are_printed(rt: HostRuntime) -> Result<(), Fail> {
+    let alloc = rt.alloc();
+    let program = program(alloc)?;
+    let pair = statement(alloc, b"begin ; end")?;
+    let named = print_program(alloc, &program, true)?;
+    let plain = print_program(alloc, &program, false)?;
+    let part = print_statement(alloc, pair.get())?;
+    let is = [
+        named.bytes() == NAMED.as_bytes(),
+        plain.bytes() == PLAIN.as_bytes(),
+        part.bytes() == b"begin\n  ;\nend\n".as_slice(),
+    ];
+    assert!(rt; is == [true; 3]);
     Ok(())
 }

@@ -1,4 +1,4 @@
-//! Look-ups in a named program and edits of it, each tried on a small one.
+//! Look-ups in a named program, edits of it and its listing, each tried on a small one.
 #![tactic(auto)]
 
 #[cfg(test)]

@@ -14,7 +14,7 @@ use Rattle.pascal_tree.specs.declared.expr.Factor.TheVariants.{rolls-Number, rol
 use Rattle.pascal_tree.specs.declared.expr.AccessPart.{AccessPart-F}
 use Rattle.pascal_tree.specs.declared.expr.AccessPart.TheVariants.{rolls-Index, rolls-Field, rolls-Dereference}
 use Rattle.pascal_tree.specs.Expressions.{part_form, access_form, width_form, arg_form, args_in, args_form, last_form, member_form, members_in, factor_form, sign_form, mul_form, term_form, add_form, sum_form, rel_form, expr_form, expr_at, factor_at, make_arg, make_member, make_expr}
-use Rattle.expression_laws.specs.FormedExprs.{formed_if_any, access_part_is_formed, factor_is_formed, access_is_formed, add_part_is_formed, arg_is_formed, expr_is_formed, mul_part_is_formed, rel_part_is_formed, member_is_formed, sum_is_formed, term_is_formed}
+use Rattle.pascal_tree.specs.FormedExprs.{formed_if_any, access_part_is_formed, factor_is_formed, access_is_formed, add_part_is_formed, arg_is_formed, expr_is_formed, mul_part_is_formed, rel_part_is_formed, member_is_formed, sum_is_formed, term_is_formed}
 use Rattle.pascal_tree.specs.Depth.{depth_if_any, access_part_depth, factor_depth, access_depth, add_part_depth, arg_depth, expr_depth, mul_part_depth, rel_part_depth, member_depth, sum_depth, term_depth}
 use Rattle.expression_laws.proofs.Words.{and-true}
 use Rattle.expression_laws.proofs.Gives.{Anything, Fits, AllFit, SomeFit, Gives, Fitting, some-all, give, refused, choice, behind, weaken, operator, mark, identifier, number, string, items, list}

@@ -12,7 +12,7 @@ use Rattle.pascal_tree.specs.declared.expr.SetMember.{SetMember, SetMember-F, ro
 use Rattle.pascal_tree.specs.declared.expr.SumExpr.{SumExpr, SumExpr-F, roll-SumExpr, map-SumExpr}
 use Rattle.pascal_tree.specs.declared.expr.Term.{Term, Term-F, roll-Term, map-Term}
 use Rattle.pascal_tree.specs.declared.expr.AccessPart.TheFolds.{fold-roll-AccessPart, fold-roll-Factor, fold-roll-Access, fold-roll-AddPart, fold-roll-Arg, fold-roll-Expr, fold-roll-MulPart, fold-roll-RelPart, fold-roll-SetMember, fold-roll-SumExpr, fold-roll-Term}
-use Rattle.expression_laws.specs.FormedExprs.{formed_access_part, formed_factor, formed_access, formed_add_part, formed_arg, formed_expr, formed_mul_part, formed_rel_part, formed_member, formed_sum, formed_term, access_part_is_formed, factor_is_formed, access_is_formed, add_part_is_formed, arg_is_formed, expr_is_formed, mul_part_is_formed, rel_part_is_formed, member_is_formed, sum_is_formed, term_is_formed}
+use Rattle.pascal_tree.specs.FormedExprs.{formed_access_part, formed_factor, formed_access, formed_add_part, formed_arg, formed_expr, formed_mul_part, formed_rel_part, formed_member, formed_sum, formed_term, access_part_is_formed, factor_is_formed, access_is_formed, add_part_is_formed, arg_is_formed, expr_is_formed, mul_part_is_formed, rel_part_is_formed, member_is_formed, sum_is_formed, term_is_formed}
 use Rattle.pascal_tree.specs.Depth.{depth_of_access_part, depth_of_factor, depth_of_access, depth_of_add_part, depth_of_arg, depth_of_expr, depth_of_mul_part, depth_of_rel_part, depth_of_member, depth_of_sum, depth_of_term, access_part_depth, factor_depth, access_depth, add_part_depth, arg_depth, expr_depth, mul_part_depth, rel_part_depth, member_depth, sum_depth, term_depth}
 use Rattle.expression_laws.proofs.Layers.{Layer}
 

@@ -28,7 +28,7 @@ use Rattle.pascal_tree.specs.declared.expr.AccessPart.{AccessPart-F, out-AccessP
 use Rattle.pascal_tree.specs.declared.expr.AccessPart.TheVariants.{rolls-Index, rolls-Field, rolls-Dereference}
 use Rattle.pascal_tree.specs.Expressions as form
 use Rattle.pascal_tree.specs.Expressions.{part_form, access_form, width_form, arg_form, args_in, args_form, last_form, member_form, members_in, factor_form, sign_form, mul_form, term_form, add_form, sum_form, rel_form, expr_form, expr_at, factor_at}
-use Rattle.expression_laws.specs.FormedExprs.{access_part_is_formed, factor_is_formed, access_is_formed, add_part_is_formed, arg_is_formed, expr_is_formed, mul_part_is_formed, rel_part_is_formed, member_is_formed, sum_is_formed, term_is_formed}
+use Rattle.pascal_tree.specs.FormedExprs.{access_part_is_formed, factor_is_formed, access_is_formed, add_part_is_formed, arg_is_formed, expr_is_formed, mul_part_is_formed, rel_part_is_formed, member_is_formed, sum_is_formed, term_is_formed}
 use Rattle.pascal_tree.specs.Depth.{access_part_depth, factor_depth, access_depth, add_part_depth, arg_depth, expr_depth, mul_part_depth, rel_part_depth, member_depth, sum_depth, term_depth}
 use Rattle.expression_laws.specs.Spelled.{Spelled}
 use Rattle.expression_laws.proofs.Words.{and-parts}

@@ -6,9 +6,9 @@ use Rattle.dice_base.specs.declared.token.TokenKind.{TokenKind}
 use Rattle.dice_base.specs.declared.token.TokenKind.TheVariants.{Word, Ident, Number, Str, Sign, Hole}
 use Rattle.dice_base.specs.Tokens.{Toks, ident_of, number_of, string_of}
 use Rattle.dice_base.specs.Forms.{Form, never, just, one, chain, either, named, numeral, quoted, row, rows_behind, rows, some_rows, list_of, ended_list}
-use Rattle.expression_laws.specs.FormedExprs.{is_identifier, is_number, is_string, all_formed, some_formed}
+use Rattle.pascal_tree.specs.FormedExprs.{is_identifier, is_number, is_string, all_formed, some_formed}
 use Rattle.pascal_tree.specs.Depth.{most}
-use Rattle.expression_laws.specs.Spelled.{HasLexeme}
+use Rattle.pascal_tree.specs.Sources.{HasLexeme}
 use Rattle.expression_laws.proofs.Words.{and-true, possible}
 
 -- ---- what holds of each of some tokens

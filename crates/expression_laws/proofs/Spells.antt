@@ -7,9 +7,10 @@ use Rattle.dice_base.specs.declared.token.TokenKind.{TokenKind}
 use Rattle.dice_base.specs.declared.token.TokenKind.TheVariants.{Word, Ident, Number, Str, Sign}
 use Rattle.dice_base.specs.Tokens.{Toks, class_of, has_class}
 use Rattle.dice_base.specs.Forms.{Form, just, one, token, chain, either, named, numeral, quoted, row, rows_behind, rows, some_rows, list_of, ended_list}
-use Rattle.expression_laws.specs.FormedExprs.{is_identifier, is_number, is_string, some_formed}
+use Rattle.pascal_tree.specs.FormedExprs.{is_identifier, is_number, is_string, some_formed}
 use Rattle.pascal_tree.specs.Depth.{most}
-use Rattle.expression_laws.specs.Spelled.{HasLexeme, Spelled}
+use Rattle.pascal_tree.specs.Sources.{HasLexeme}
+use Rattle.expression_laws.specs.Spelled.{Spelled}
 use Rattle.expression_laws.proofs.Words.{and-parts, ident_lexeme, number_lexeme, string_lexeme, word_lexeme, sign_lexeme}
 use Rattle.expression_laws.proofs.Gives.{no_levels, Fits, AllFit, SomeFit, some-all, all-append}
 

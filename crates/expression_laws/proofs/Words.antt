@@ -12,9 +12,9 @@ use Rattle.dice_base.specs.declared.byte.ByteClass.TheVariants.{Letter, Digit, S
 use Rattle.dice_base.specs.declared.token.TokenKind.{TokenKind}
 use Rattle.dice_base.specs.declared.token.TokenKind.TheVariants.{Word, Ident, Number, Str, Sign}
 use Rattle.dice_base.specs.declared.symbols.TheConstants.{WORD_SYMBOLS, SIGNS}
-use Rattle.dice_base.specs.Lexemes.{class, is_letter, is_digit, digit_byte, word_byte, string_byte, largest_number, value_from, value_of, lower, word_symbol, sign_of, named_by, Lexeme, word, number, string, sign, alternative, hole}
-use Rattle.expression_laws.specs.FormedExprs.{is_small_letter, is_identifier, is_number, is_string}
-use Rattle.expression_laws.specs.Spelled.{HasLexeme}
+use Rattle.dice_base.specs.Lexemes.{class, is_letter, is_digit, digit_byte, word_byte, string_byte, largest_number, value_from, value_of, lower, word_symbol, sign_of, named_by, Lexeme, LexesTo, word, number, string, sign, alternative, hole, ends, skips, takes}
+use Rattle.pascal_tree.specs.FormedExprs.{is_small_letter, is_identifier, is_number, is_string}
+use Rattle.pascal_tree.specs.Sources.{HasLexeme}
 
 abbrev some_of : {A : Type 0} → A → Option A
 some_of a = Some a
@@ -250,3 +250,12 @@ sign_lexeme k h = record {
   is = sign (sign_at k) k
       (found-at k (sign_of (sign_at k)) (below-true (λ i. is_at i (sign_of (sign_at i))) 20 k signs-found h));
 }
+
+-- ---- the tokens of a text
+
+-- each is one of some text
+pub lexes_each : (rest text : List ℕ) (ts : List TokenKind) → LexesTo rest text ts → AllByRecursion HasLexeme ts
+lexes_each rest text ts ends = tt
+lexes_each rest text ts (skips {more = more} s l) = lexes_each rest more ts l
+lexes_each rest text ts (takes {more = more} {tokens = us} k l) =
+    (record { text = k.lexeme; is = k.is }, lexes_each rest more us l)

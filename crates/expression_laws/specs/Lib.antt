@@ -1,4 +1,1 @@
-pub mod Formed
-pub mod FormedExprs
-pub mod Levels
 pub mod Spelled

@@ -1,15 +1,9 @@
 -- Values that a text can spell: by a form, from tokens of which each is one of some text.
-use Rattle.std.specs.Prelude.{ℕ, Bool, List}
+use Rattle.std.specs.Prelude.{Bool}
 use Rattle.std.specs.List.{AllByRecursion}
-use Rattle.dice_base.specs.declared.token.TokenKind.{TokenKind}
-use Rattle.dice_base.specs.Lexemes.{Lexeme}
 use Rattle.dice_base.specs.Tokens.{Toks}
 use Rattle.dice_base.specs.Forms.{Form}
-
--- some text is this token (ISO 7185:1990, 6.1)
-pub record HasLexeme (t : TokenKind) : Type 0 where
-  pub text : List ℕ
-  pub is : Lexeme text t
+use Rattle.pascal_tree.specs.Sources.{HasLexeme}
 
 -- some such tokens spell the value by the form, and it is open or not
 pub record Spelled {A : Type 0} (g : Form A) (a : A) (w : Bool) : Type 0 where

@@ -26,9 +26,9 @@ use Rattle.pascal_tree.specs.Statements.{make_stmt, make_arm}
 use Rattle.pascal_tree.specs.Programs.{make_block, make_routine, make_program}
 use Rattle.pascal_tree.specs.ExprTokens.{in_parens, expr_tokens, access_tokens, accesses_tokens, args_tokens}
 use Rattle.pascal_tree.specs.DeclTokens.{ident_tokens, constants_tokens, decl_tokens, heading_tokens}
-use Rattle.pascal_print.specs.declared.event.Event.{Event}
-use Rattle.pascal_print.specs.declared.event.Event.TheVariants.{Item, Part, Back, Token}
-use Rattle.pascal_print.specs.Events.{Laid, tokens_of, said, child, more, sequence, ended, label_tokens, direction, tested, in_kind, in_arm, in_stmt, in_block, in_routine, declaration, part, labels, parts, heading, block_or_forward, decl_events, stmt_events, kind_events, arm_events, block_events, routine_events, program_tokens}
+use Rattle.tree_listing.specs.declared.event.Event.{Event}
+use Rattle.tree_listing.specs.declared.event.Event.TheVariants.{Item, Part, Back, Token}
+use Rattle.tree_listing.specs.Events.{Laid, tokens_of, said, child, more, sequence, ended, label_tokens, direction, tested, in_kind, in_arm, in_stmt, in_block, in_routine, declaration, part, labels, parts, heading, block_or_forward, decl_events, stmt_events, kind_events, arm_events, block_events, routine_events, program_tokens}
 
 -- ---- events one after another
 

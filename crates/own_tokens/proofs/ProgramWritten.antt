@@ -26,7 +26,7 @@ use Rattle.pascal_tree.specs.Programs.{ended_form, labels_part, decls_part, forw
 use Rattle.pascal_tree.specs.Joined.{join}
 use Rattle.pascal_tree.specs.ExprTokens.{in_parens, expr_tokens}
 use Rattle.pascal_tree.specs.DeclTokens.{ident_tokens, type_tokens, decl_tokens}
-use Rattle.pascal_print.specs.Events.{direction, program_tokens}
+use Rattle.tree_listing.specs.Events.{direction, program_tokens}
 use Rattle.own_tokens.proofs.Written.{some_of, word_is, AreClasses, Writes, Written, own-spell, own-among, done, refused, choice, behind, last, single, word, sign, operators, identifier, number, items, some_items, list, ended, parens}
 use Rattle.own_tokens.proofs.ExprWritten.{comma_is, access-written, accesses-written, args-written, expr-written}
 use Rattle.own_tokens.proofs.DeclWritten.{semicolon_is, constants-written, type-written, labels-written, constdef-written, typedef-written, vardef-written, heading-written}

@@ -1,5 +1,8 @@
 //! All the tokens as a declaration, or as a heading.
-ghost use Rattle.std.specs.Prelude.{◌≡◌, ◌≤◌, length};
+ghost use Rattle.std.specs.Prelude.{◌≡◌, ◌≤◌, true, length, IfOk};
+ghost use Rattle.std.specs.List.{AllByRecursion};
+ghost use Rattle.pascal_tree.specs.Formed.{heading_is_formed, is_formed_decl};
+ghost use Rattle.pascal_tree.specs.Sources.{HasLexeme};
 ghost use Rattle.pascal_tree.specs.declared.levels.TheConstants.{LEVELS};
 ghost use Rattle.pascal_tree.specs.Declarations.{decl_at};
 ghost use Rattle.declaration_parser.specs.Readers as spec;
@@ -43,8 +46,10 @@ fn name_decl(read: Result<Decl, ParseFault>) -> Result<Decl, ParseFault>
 /// program's block.
 #[tactic(auto, using(crate::proofs::Readings::decl_reading))]
 pub fn parse_declaration(alloc: Global, tokens: &[Token]) -> Result<Decl, ParseFault>
-    requires { length tokens.now ≤ 65536 }
-    ensures { IsReading decl_at LEVELS named_decl (kinds tokens.now) result }
+    requires few { length tokens.now ≤ 65536 }
+    requires lexemes { AllByRecursion HasLexeme (kinds tokens.now) }
+    ensures reading { IsReading decl_at LEVELS named_decl (kinds tokens.now) result }
+    ensures formed { IfOk result (λ decl. is_formed_decl decl ≡ true) }
 {
     name_decl(read_decl(alloc, tokens))
 }
@@ -65,8 +70,10 @@ fn read_heading(alloc: Global, tokens: &[Token]) -> Result<Heading, ParseFault>
 
 /// The heading that the tokens are (6.6.1, 6.6.2).
 pub fn parse_heading(alloc: Global, tokens: &[Token]) -> Result<Heading, ParseFault>
-    requires { length tokens.now ≤ 65536 }
-    ensures { IsReading heading_at LEVELS (λ h. h) (kinds tokens.now) result }
+    requires few { length tokens.now ≤ 65536 }
+    requires lexemes { AllByRecursion HasLexeme (kinds tokens.now) }
+    ensures reading { IsReading heading_at LEVELS (λ h. h) (kinds tokens.now) result }
+    ensures formed { IfOk result (λ heading. heading_is_formed heading ≡ true) }
 {
     read_heading(alloc, tokens)
 }

@@ -1,7 +1,8 @@
 //! Reads tokens as the tree of a program, or of a part of one.
 //!
-//! Each call reads all the tokens, within 64 levels, and names the items from 1 on in the order of the text. It answers
-//! the one tree that the tokens spell, or their fault (`IsReading` in token_reader, over the forms of pascal_tree).
+//! Each call reads all the tokens, each of which some text has, within 64 levels, and names the items from 1 on in the
+//! order of the text. It answers the one tree that the tokens spell, or their fault (`IsReading` in token_reader, over the
+//! forms of pascal_tree). The tree is formed (`Formed` in pascal_tree), as an edit asks for.
 #![tactic(auto)]
 
 mod decls;

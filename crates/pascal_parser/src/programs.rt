@@ -1,5 +1,8 @@
 //! All the tokens as a program, or as a routine.
-ghost use Rattle.std.specs.Prelude.{◌≡◌, ◌≤◌, ◌-◌, length, IfOk};
+ghost use Rattle.std.specs.Prelude.{◌≡◌, ◌≤◌, ◌-◌, true, length, IfOk};
+ghost use Rattle.std.specs.List.{AllByRecursion};
+ghost use Rattle.pascal_tree.specs.Formed.{is_formed, is_formed_routine};
+ghost use Rattle.pascal_tree.specs.Sources.{HasLexeme};
 ghost use Rattle.pascal_tree.specs.declared.levels.TheConstants.{LEVELS};
 ghost use Rattle.pascal_tree.specs.Naming.{numbered_program};
 ghost use Rattle.pascal_tree.specs.Programs.{program_at, routine_at};
@@ -49,8 +52,10 @@ fn read_program(alloc: Global, tokens: &[Token]) -> Result<Boxed<Tree>, ParseFau
     read_all(alloc, tokens, LEVELS - 1, boxed_program)
 }
 
-// The program of a tree, with the names of its items.
+// The program of a tree, with the names of its items: it is formed with them as it is without.
+#[tactic(auto, using(crate::proofs::Readings::named_formed))]
 fn named_program(alloc: Global, tree: &Tree) -> Result<Program, NoMemory>
+    requires { is_formed tree.now ≡ true }
     ensures { IfOk result (λ program. program ≡ numbered_program tree.now) }
 {
     let tree = number_program(alloc, tree)?;
@@ -58,6 +63,7 @@ fn named_program(alloc: Global, tree: &Tree) -> Result<Program, NoMemory>
 }
 
 fn name_program(alloc: Global, read: Result<Boxed<Tree>, ParseFault>) -> Result<Program, ParseFault>
+    requires { IfOk read (λ tree. is_formed tree ≡ true) }
     ensures { Makes numbered_program read result }
 {
     let tree = read?;
@@ -68,7 +74,8 @@ fn name_program(alloc: Global, read: Result<Boxed<Tree>, ParseFault>) -> Result<
 /// The program that the tokens are (ISO 7185:1990, 6.10). It is at level 1, and so is its block.
 #[tactic(auto, using(crate::proofs::Readings::program_reading))]
 pub fn parse_program(alloc: Global, tokens: &[Token]) -> Result<Program, ParseFault>
-    requires { length tokens.now ≤ 65536 }
+    requires few { length tokens.now ≤ 65536 }
+    requires lexemes { AllByRecursion HasLexeme (kinds tokens.now) }
     ensures { IsReading program_at (LEVELS - 1) numbered_program (kinds tokens.now) result }
 {
     name_program(alloc, read_program(alloc, tokens))
@@ -107,8 +114,10 @@ fn name_routine(
 /// The procedure or function that the tokens are (6.6), itself at level 1.
 #[tactic(auto, using(crate::proofs::Readings::routine_reading))]
 pub fn parse_routine(alloc: Global, tokens: &[Token]) -> Result<Routine, ParseFault>
-    requires { length tokens.now ≤ 65536 }
-    ensures { IsReading routine_at LEVELS named_routine (kinds tokens.now) result }
+    requires few { length tokens.now ≤ 65536 }
+    requires lexemes { AllByRecursion HasLexeme (kinds tokens.now) }
+    ensures reading { IsReading routine_at LEVELS named_routine (kinds tokens.now) result }
+    ensures formed { IfOk result (λ routine. is_formed_routine routine ≡ true) }
 {
     name_routine(alloc, read_routine(alloc, tokens))
 }

@@ -1,5 +1,8 @@
 //! All the tokens as a statement, or as the header of one.
-ghost use Rattle.std.specs.Prelude.{◌≡◌, ◌≤◌, length};
+ghost use Rattle.std.specs.Prelude.{◌≡◌, ◌≤◌, true, length, IfOk};
+ghost use Rattle.std.specs.List.{AllByRecursion};
+ghost use Rattle.pascal_tree.specs.Formed.{is_formed_stmt};
+ghost use Rattle.pascal_tree.specs.Sources.{HasLexeme};
 ghost use Rattle.pascal_tree.specs.declared.levels.TheConstants.{LEVELS};
 ghost use Rattle.pascal_tree.specs.Statements.{stmt_at, header_at};
 ghost use Rattle.statement_parser.specs.Readers.{stmt_in, header_in};
@@ -46,8 +49,10 @@ fn name_statement(alloc: Global, read: Result<Boxed<Stmt>, ParseFault>) -> Resul
 /// The statement that the tokens are (ISO 7185:1990, 6.8), itself at level 1.
 #[tactic(auto, using(crate::proofs::Readings::stmt_reading))]
 pub fn parse_statement(alloc: Global, tokens: &[Token]) -> Result<Stmt, ParseFault>
-    requires { length tokens.now ≤ 65536 }
-    ensures { IsReading stmt_at LEVELS named_stmt (kinds tokens.now) result }
+    requires few { length tokens.now ≤ 65536 }
+    requires lexemes { AllByRecursion HasLexeme (kinds tokens.now) }
+    ensures reading { IsReading stmt_at LEVELS named_stmt (kinds tokens.now) result }
+    ensures formed { IfOk result (λ stmt. is_formed_stmt stmt ≡ true) }
 {
     name_statement(alloc, read_statement(alloc, tokens))
 }
@@ -82,8 +87,9 @@ fn name_header(read: Result<Stmt, ParseFault>) -> Result<Header, ParseFault>
 /// one `#`.
 #[tactic(auto, using(crate::proofs::Readings::header_reading))]
 pub fn parse_header(alloc: Global, tokens: &[Token]) -> Result<Header, ParseFault>
-    requires { length tokens.now ≤ 65536 }
-    ensures { IsReading header_at LEVELS named_header (kinds tokens.now) result }
+    requires few { length tokens.now ≤ 65536 }
+    requires lexemes { AllByRecursion HasLexeme (kinds tokens.now) }
+    ensures reading { IsReading header_at LEVELS named_header (kinds tokens.now) result }
 {
     name_header(read_header(alloc, tokens))
 }

@@ -1,2 +1,8 @@
-pub mod BlockParts
-pub mod Laying
+mod Examples
+pub mod Column
+pub mod ListedNames
+pub mod Moved
+pub mod OneText
+pub mod Printed
+pub mod ReadsBack
+pub mod Unnamed

@@ -1,3 +1,2 @@
-pub mod Events
-pub mod Layout
-pub mod Listing
+pub mod ReadsBack
+pub mod FirstColumn

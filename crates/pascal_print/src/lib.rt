@@ -1,12 +1,9 @@
-//! The listing of a program: its tokens in lines, with the names of its items before them or without.
+//! The listing of a program, with the names of its items or without. Without them it is read back as the same program,
+//! names aside. With them its first column has the names of the items. And which trees some text spells: the formed ones.
 #![tactic(auto)]
 
-mod blocks;
-mod event;
-mod events;
-mod layout;
 mod print;
-mod statements;
+mod sources;
 
-pub use event::{Event, Line};
 pub use print::{print_program, print_statement};
+pub use sources::{formed_programs, formed_statements};

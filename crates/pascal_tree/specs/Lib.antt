@@ -5,6 +5,8 @@ pub mod Statements
 pub mod Classes
 pub mod Depth
 pub mod Openness
+pub mod FormedExprs
+pub mod Formed
 pub mod Joined
 pub mod ExprTokens
 pub mod DeclTokens

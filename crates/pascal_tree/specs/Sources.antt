@@ -1,13 +1,19 @@
--- Programs and statements that a text spells, names aside: its tokens (ISO 7185:1990, 6.1) are those of a spelling by the
--- grammar (6.2 to 6.10), with no more than the allowed levels.
+-- Tokens that a text has (ISO 7185:1990, 6.1), and programs and statements that a text spells, names aside: its tokens are
+-- those of a spelling by the grammar (6.2 to 6.10), with no more than the allowed levels.
 use Rattle.std.specs.Prelude.{ℕ, Bool, List}
-use Rattle.dice_base.specs.Lexemes.{Lexes}
+use Rattle.dice_base.specs.declared.token.TokenKind.{TokenKind}
+use Rattle.dice_base.specs.Lexemes.{Lexeme, Lexes}
 use Rattle.dice_base.specs.Tokens.{Toks}
 use Rattle.pascal_tree.specs.declared.stmt.Stmt.{Stmt}
 use Rattle.pascal_tree.specs.declared.program.Tree.{Tree}
 use Rattle.pascal_tree.specs.Statements.{stmt_at}
 use Rattle.pascal_tree.specs.Programs.{Derives}
 use Rattle.pascal_tree.specs.Unnamed.{unnamed_stmt, unnamed_program}
+
+-- some text is this token
+pub record HasLexeme (t : TokenKind) : Type 0 where
+  pub text : List ℕ
+  pub is : Lexeme text t
 
 -- some text spells the program
 pub record HasSource (p : Tree) : Type 0 where

@@ -4,7 +4,7 @@ use Rattle.std.specs.List.{AllByRecursion, IsDistinct}
 use Rattle.std.proofs.lemmas.Bool.{ne_eqb}
 use Rattle.pascal_tree.specs.declared.program.Tree.{Tree}
 use Rattle.pascal_tree.specs.Names.{Counts, program_names}
-use Rattle.program_tree.specs.Named.{IsNameBelow, IsNamed}
+use Rattle.program_tree.specs.Named.{IsNameBelow, IsNamed, IsProgram}
 
 counts-le : (a : ℕ) (ns : List ℕ) (b : ℕ) → Counts a ns b → a ≤ b
 counts-le a [] b h = omega arith
@@ -53,3 +53,7 @@ named_later p later h more small = record {
   within = below_later p.next later (program_names p) more h.within;
   small = small;
 }
+
+-- so it leaves the invariant, of which the rest does not speak of it
+pub program_later : (p : Tree) (later : ℕ) → IsProgram p → p.next ≤ later → later ≤ 4294967295 → IsProgram (record p { next = later })
+program_later p later h more small = record { named = named_later p later h.named more small; formed = h.formed }

@@ -16,7 +16,7 @@ use Rattle.pascal_tree.specs.declared.program.Tree.{Tree}
 use Rattle.pascal_tree.specs.Names.{any_names, of_kind, of_arm, of_stmt, stmt_names, kind_names, arm_names, decl_names, label_names, of_block, of_routine, block_names, routine_names, program_names}
 use Rattle.pascal_tree.specs.Paths.{ItemValue, OfProgram, OfDecl, OfRoutine, OfStmt, kind_parts, arm_body, stmt_children, block_children, any_children, item_children, item_name}
 use Rattle.pascal_tree.specs.Rows.{Row, rows_from, stmt_rows, program_rows}
-use Rattle.program_tree.specs.Named.{IsNamed}
+use Rattle.program_tree.specs.Named.{IsProgram}
 use Rattle.program_tree.proofs.Induction.{stmt_has, tree_has}
 use Rattle.program_tree.proofs.Opened.{item_rows, item_opened, stmts_mapped}
 
@@ -131,5 +131,5 @@ row_names t = tree_has Agrees by_parts t []
 pub stmt_row_names : (s : Stmt) (path : List ℕ) → map (λ (r : Row). r.name) (stmt_rows s path) ≡ stmt_names s
 stmt_row_names s path = stmt_has Agrees by_parts s path
 
-pub once_each : (t : Tree) → IsNamed t → IsDistinct eqb (map (λ (r : Row). r.name) (program_rows t))
-once_each t h = subst (λ (ns : List ℕ). IsDistinct eqb ns) (sym (row_names t)) h.differ
+pub once_each : (t : Tree) → IsProgram t → IsDistinct eqb (map (λ (r : Row). r.name) (program_rows t))
+once_each t h = subst (λ (ns : List ℕ). IsDistinct eqb ns) (sym (row_names t)) h.named.differ

@@ -1,7 +1,8 @@
 //! Programs whose items have names.
-ghost use Rattle.std.specs.Prelude.{◌≡◌, ◌≤◌, IfOk, MatchOption, option_map, option_copied};
+ghost use Rattle.std.specs.Prelude.{◌≡◌, ◌≤◌, true, IfOk, MatchOption, option_map, option_copied};
+ghost use Rattle.pascal_tree.specs.Formed.{is_formed};
 ghost use Rattle.pascal_tree.specs.Names.{Counts, program_names};
-ghost use Rattle.program_tree.specs.Named.{IsNamed};
+ghost use Rattle.program_tree.specs.Named.{IsProgram};
 ghost use Rattle.program_tree.specs.Found.{HasNoParent, HasNoRow, HasNoSequence, HasParent, HasPath, HasRow, HasSequence, HaveOwnNames};
 ghost use Rattle.pascal_tree.specs.Paths.{last_place};
 ghost use Rattle.pascal_tree.specs.Rows.{own_text, program_rows};
@@ -17,7 +18,8 @@ use sqlite_items::{Boxed, Items};
 use std::alloc::Global;
 use std::marker::Model;
 
-/// A program each of whose items has a name of its own, at least 1 and below the next name. Contracts see its tree.
+/// A program each of whose items has a name of its own, at least 1 and below the next name, and which some text spells,
+/// names aside: it is formed. Contracts see its tree.
 #[derive(Drop)]
 pub struct Program {
     // In a box, so that its drop is one call wherever a program is let go.
@@ -28,7 +30,7 @@ pub struct Program {
 impl Model for Program {
     ghost use Rattle.std.specs.Prelude.{◌≡◌};
     ghost use Rattle.pascal_tree.specs.declared.program.Tree.{Tree};
-    ghost use Rattle.program_tree.specs.Named.{IsNamed};
+    ghost use Rattle.program_tree.specs.Named.{IsProgram};
     ghost use Rattle.program_tree.specs.Entries.{IsIndexOf};
     ghost use Rattle.pascal_tree.specs.contracts.decl.Block as block_type;
     ghost use Rattle.std.specs.Coded.{codes};
@@ -39,12 +41,12 @@ impl Model for Program {
 
     ghost view = { λ p. p.tree };
 
-    ghost invariant = { λ p. IsNamed p.tree × IsIndexOf p.tree p.index };
+    ghost invariant = { λ p. IsProgram p.tree × IsIndexOf p.tree p.index };
 }
 
 // The tree, with its index.
 fn indexed(alloc: Global, tree: Boxed<Tree>) -> Result<Program, NoMemory>
-    requires { IsNamed tree }
+    requires { IsProgram tree }
     ensures { IfOk result (λ p. p ≡ tree) }
 {
     let index = index_program(alloc, tree.get())?;
@@ -55,13 +57,14 @@ fn indexed(alloc: Global, tree: Boxed<Tree>) -> Result<Program, NoMemory>
 fn indexed_in_turn(alloc: Global, tree: Boxed<Tree>, next: u32) -> Result<Program, NoMemory>
     requires last { next ≡ tree.next }
     requires names { Counts 1 (program_names tree) tree.next }
+    requires formed { is_formed tree ≡ true }
     ensures { IfOk result (λ p. p ≡ tree) }
 {
     indexed(alloc, tree)
 }
 
 impl Program {
-    /// A program of these parts, whose items have names already.
+    /// A program of these parts, whose items have names already. Its own name is 1.
     pub fn new(
         alloc: Global,
         ident: Text,
@@ -69,7 +72,7 @@ impl Program {
         block: Block,
         next: u32,
     ) -> Result<Program, NoMemory>
-        requires { IsNamed (record { ident = ident; files = files; block = block; next = next }) }
+        requires { IsProgram (record { ident = ident; files = files; block = block; next = next }) }
         ensures { IfOk result (λ p. p ≡ record { ident = ident; files = files; block = block; next = next }) }
     {
         let tree = Tree {
@@ -82,9 +85,10 @@ impl Program {
         indexed(alloc, tree)
     }
 
-    /// The program of a tree whose items bear the numbers below its next name, each once, in the order of the text.
+    /// The program of a formed tree whose items bear the numbers below its next name, each once, in the order of the text.
     pub fn from_numbered(alloc: Global, tree: Tree) -> Result<Program, NoMemory>
-        requires { Counts 1 (program_names tree) tree.next }
+        requires names { Counts 1 (program_names tree) tree.next }
+        requires formed { is_formed tree ≡ true }
         ensures { IfOk result (λ p. p ≡ tree) }
     {
         let next = tree.next;
@@ -95,7 +99,7 @@ impl Program {
     /// The tree of the program.
     pub fn tree(&self) -> &Tree
         ensures value { result.now ≡ self.now }
-        ensures named { IsNamed self.now }
+        ensures invariant { IsProgram self.now }
     {
         self.tree.get()
     }
@@ -108,10 +112,10 @@ impl Program {
     }
 
     /// The program parameters.
-    pub fn files(&self) -> &Items<Text>
+    pub fn files(&self) -> &[Text]
         ensures { result.now ≡ self.now.files }
     {
-        &self.tree.get().files
+        self.tree.get().files.as_slice()
     }
 
     /// The declarations and the body.
@@ -138,7 +142,7 @@ impl Program {
     }
 
     /// A copy with this next name.
-    #[tactic(auto, using(crate::proofs::Counted::named_later))]
+    #[tactic(auto, using(crate::proofs::Counted::program_later))]
     pub fn copy_next(&self, alloc: Global, next: u32) -> Result<Program, NoMemory>
         requires { self.now.next ≤ next }
         ensures { let tree = self.now in

@@ -1,5 +1,8 @@
 //! Texts that are read as parts of a program, and texts that are not.
 ghost use Rattle.std.specs.Prelude.{◌≤◌, length};
+ghost use Rattle.std.specs.List.{AllByRecursion};
+ghost use Rattle.pascal_tree.specs.Sources.{HasLexeme};
+ghost use Rattle.token_reader.specs.Answers.{kinds};
 
 use dice_base::{NoMemory, Token};
 use pascal_parser::{
@@ -26,7 +29,8 @@ enum Part {
 
 // Lets the tree go, and keeps why there is none.
 fn fault_of_tokens(alloc: Global, part: Part, tokens: &[Token]) -> Option<ParseFault>
-    requires { length tokens.now ≤ 65536 }
+    requires few { length tokens.now ≤ 65536 }
+    requires lexemes { AllByRecursion HasLexeme (kinds tokens.now) }
 {
     match part {
         Part::Program => parse_program(alloc, tokens).err(),
@@ -38,6 +42,7 @@ fn fault_of_tokens(alloc: Global, part: Part, tokens: &[Token]) -> Option<ParseF
     }
 }
 
+#[tactic(auto, using(expression_laws::proofs::Words::lexes_each))]
 fn fault_of(alloc: Global, part: Part, text: &[u8]) -> Result<Option<ParseFault>, NoMemory> {
     match scan(alloc, text) {
         Ok(tokens) => Ok(fault_of_tokens(alloc, part, &tokens)),

@@ -10,11 +10,11 @@ use Rattle.pascal_tree.specs.declared.stmt.Arm.{Arm}
 use Rattle.pascal_tree.specs.declared.stmt.StmtKind.TheFolds.{fold_out-Stmt}
 use Rattle.pascal_tree.specs.declared.program.Tree.{Tree}
 use Rattle.tree_text.specs.Spelling.{spelling_of}
-use Rattle.pascal_print.specs.declared.event.Event.{Event}
-use Rattle.pascal_print.specs.declared.event.Event.TheVariants.{Item, Part, Back, Token}
-use Rattle.pascal_print.specs.declared.event.Line.{Line}
-use Rattle.pascal_print.specs.Events.{Laid, tokens_of, in_kind, in_arm, in_stmt, stmt_events, kind_events, arm_events, program_events, program_tokens, statement_tokens}
-use Rattle.pascal_print.specs.Listing.{closes, begins, on_line, rest_of, listing_lines, blanks, spellings_after_blanks, spellings_of, plain_line, text_of_lines, listing, statement_listing}
+use Rattle.tree_listing.specs.declared.event.Event.{Event}
+use Rattle.tree_listing.specs.declared.event.Event.TheVariants.{Item, Part, Back, Token}
+use Rattle.tree_listing.specs.declared.event.Line.{Line}
+use Rattle.tree_listing.specs.Events.{Laid, tokens_of, in_kind, in_arm, in_stmt, stmt_events, kind_events, arm_events, program_events, program_tokens, statement_tokens}
+use Rattle.tree_listing.specs.Listing.{closes, begins, on_line, rest_of, listing_lines, blanks, spellings_after_blanks, spellings_of, plain_line, text_of_lines, listing, statement_listing}
 use Rattle.dice_base.proofs.Appended.{all-left, all-right}
 use Rattle.token_texts.proofs.Gaps.{OpensGap, Spaced, nothing, gap, puts}
 use Rattle.token_texts.proofs.Spellings.{IsSpelt}

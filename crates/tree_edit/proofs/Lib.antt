@@ -2,11 +2,14 @@ pub mod Among
 pub mod Distinct
 pub mod EditedRows
 pub mod Endings
+pub mod FormedAfter
 pub mod Found
 pub mod Items
+pub mod LevelsAfter
 pub mod Lists
 pub mod NameSplits
 pub mod NamedAfter
 pub mod NumberedRows
+pub mod ReplacedFormed
 pub mod RowSplits
 pub mod SameEndings

@@ -1,7 +1,7 @@
 -- How a statement ends is the same with other names, and with a part in place of another that ends alike.
 use Rattle.std.proofs.Common.{◌≡◌, ℕ, zero, suc, ◌+◌, ◌-◌, ◌&&◌, Bool, true, false, List, [], ◌∷◌, length, map, Option, Some, None, refl, sym, subst, ap, ◌∙◌, eqb, ltb}
 use Rattle.std.specs.Prelude.{if◌then◌else◌, option_map}
-use Rattle.std.specs.List.{AllByRecursion, list_all}
+use Rattle.std.specs.List.{list_all}
 use Rattle.pascal_tree.specs.declared.stmt.Stmt.{Stmt, Stmt-F, out-Stmt, out-roll-Stmt}
 use Rattle.pascal_tree.specs.declared.stmt.StmtKind.{StmtKind, StmtKind-F, out-StmtKind}
 use Rattle.pascal_tree.specs.declared.stmt.StmtKind.TheVariants as s
@@ -14,14 +14,12 @@ use Rattle.pascal_tree.specs.declared.decl.Block.TheFolds.{map-Routine, fold_out
 use Rattle.pascal_tree.specs.declared.decl.Routine.{Routine, Routine-F, out-Routine, out-roll-Routine}
 use Rattle.pascal_tree.specs.declared.program.Tree.{Tree}
 use Rattle.pascal_tree.specs.Names.{stmt_renaming}
-use Rattle.pascal_tree.specs.Naming.{kind_in_turn, kind_numbering, stmt_numbering}
 use Rattle.pascal_tree.specs.Openness.{Ending, closed, are_paired, is_paired_before, ending_of_kind, ending_of_arm, ending_of_stmt, stmt_ending, kind_ending, arm_ending, paired_of_block, paired_of_routine, block_is_paired, routine_is_paired, program_is_paired}
-use Rattle.pascal_tree.specs.Paths.{ItemValue, OfProgram, OfDecl, OfRoutine, OfStmt, kind_parts, arm_body, stmt_children, item_children}
-use Rattle.program_tree.proofs.Induction.{stmt_has}
+use Rattle.pascal_tree.specs.Paths.{arm_body}
+use Rattle.tree_laws.proofs.Renamed.{renamed-ends}
 use Rattle.tree_edit.specs.Edited.{can_stand, edited_program, is_right_kind}
 use Rattle.tree_edit.specs.Place.{change, change_if, change_in_arm, change_in_kind, change_in_stmt, put_at, declared, with_routines, with_body, after_decls, change_in_block, change_in_routine, put_in_block}
 use Rattle.tree_edit.proofs.Endings.{arm_ending-is, arm_put}
-use Rattle.tree_edit.proofs.NumberedRows.{layer, stmts_in_turn, arms_in_turn, kind_numbering-is, stmt_numbering-is, arm_bodies}
 
 -- ---- how a statement ends, from its parts
 
@@ -181,80 +179,11 @@ put_in_alike (i ∷ path) a b e block =
 
 -- ---- other names
 
--- a statement with other names inside it and of its own
-abbrev EndsAlike : ItemValue → Type 0
-EndsAlike (OfStmt x) = (name n : ℕ) → stmt_ending (stmt_renaming name x n).0 ≡ stmt_ending x
-EndsAlike (OfProgram p) = Unit {0}
-EndsAlike (OfDecl d) = Unit {0}
-EndsAlike (OfRoutine r) = Unit {0}
-
-abbrev AllAlike : List Stmt → Type 0
-AllAlike xs = AllByRecursion EndsAlike (map OfStmt xs)
-
-turn_alike : (x : Stmt) (n : ℕ) → EndsAlike (OfStmt x) → stmt_ending (stmt_numbering x n).0 ≡ stmt_ending x
-turn_alike x n h = ap stmt_ending (stmt_numbering-is x n) ∙ h n (n + 1)
-
-turns_alike : (xs : List Stmt) (n : ℕ) → AllAlike xs → map stmt_ending (stmts_in_turn xs n) ≡ map stmt_ending xs
-turns_alike [] n h = refl
-turns_alike (x ∷ xs) n h =
-    ap (λ (e : Ending). e ∷ map stmt_ending (stmts_in_turn xs (stmt_numbering x n).1)) (turn_alike x n h.0)
-    ∙ ap (λ (es : List Ending). stmt_ending x ∷ es) (turns_alike xs (stmt_numbering x n).1 h.1)
-
-arm_endings : (arms : List Arm) → map arm_ending arms ≡ map stmt_ending (map arm_body arms)
-arm_endings [] = refl
-arm_endings (a ∷ arms) = rw (arm_ending-is a, arm_endings arms) refl
-
-arm_turns_alike : (arms : List Arm) (n : ℕ) → AllAlike (map arm_body arms) → map arm_ending (arms_in_turn arms n) ≡ map arm_ending arms
-arm_turns_alike arms n h =
-    arm_endings (arms_in_turn arms n) ∙ (ap (λ (xs : List Stmt). map stmt_ending xs) (arm_bodies arms n) ∙ (turns_alike (map arm_body arms) n h ∙ sym (arm_endings arms)))
-
-kind_turn_alike : (k : StmtKind-F StmtKind Arm Stmt) (n : ℕ) → AllAlike (kind_parts arm_body k) → ends (out-StmtKind (kind_in_turn (layer k) n).0) ≡ ends k
-kind_turn_alike StmtKind-F.Empty n h = rw s.outs-Empty refl
-kind_turn_alike (StmtKind-F.Assign a e) n h = rw (s.outs-Assign a e) refl
-kind_turn_alike (StmtKind-F.Call x args) n h = rw (s.outs-Call x args) refl
-kind_turn_alike (StmtKind-F.Goto label) n h = rw (s.outs-Goto label) refl
-kind_turn_alike (StmtKind-F.Compound stmts) n h = rw (s.outs-Compound (stmts_in_turn stmts n)) (ap (λ (es : List Ending). closed (are_paired es)) (turns_alike stmts n h))
-kind_turn_alike (StmtKind-F.If e a None) n h =
-    rw (s.outs-If e (stmt_numbering a n).0 None) (ap (λ (x : Ending). record { is_open = true; is_paired = x.is_paired }) (turn_alike a n h.0))
-kind_turn_alike (StmtKind-F.If e a (Some b)) n h =
-    (let both : Ending → Ending → Ending = λ x y. record { is_open = y.is_open; is_paired = is_paired_before true x && y.is_paired } in
-    let m = (stmt_numbering a n).1 in
-    rw (s.outs-If e (stmt_numbering a n).0 (Some (stmt_numbering b m).0))
-    (ap (λ (x : Ending). both x (stmt_ending (stmt_numbering b m).0)) (turn_alike a n h.0) ∙ ap (λ (y : Ending). both (stmt_ending a) y) (turn_alike b m h.1.0)))
-kind_turn_alike (StmtKind-F.Case e arms) n h = rw (s.outs-Case e (arms_in_turn arms n)) (ap (λ (es : List Ending). closed (are_paired es)) (arm_turns_alike arms n h))
-kind_turn_alike (StmtKind-F.While e a) n h = rw (s.outs-While e (stmt_numbering a n).0) (turn_alike a n h.0)
-kind_turn_alike (StmtKind-F.Repeat stmts e) n h = rw (s.outs-Repeat (stmts_in_turn stmts n) e) (ap (λ (es : List Ending). closed (are_paired es)) (turns_alike stmts n h))
-kind_turn_alike (StmtKind-F.For x first down last a) n h = rw (s.outs-For x first down last (stmt_numbering a n).0) (turn_alike a n h.0)
-kind_turn_alike (StmtKind-F.With records a) n h = rw (s.outs-With records (stmt_numbering a n).0) (turn_alike a n h.0)
-
--- the outermost layer of the statement with this name, and with names from n on inside it
-abbrev renaming_layer : ℕ → Stmt → ℕ → Stmt-F StmtKind Arm Stmt
-renaming_layer name x n = record { name = record { 0 = name }; label = (out-Stmt x).label; kind = (kind_numbering (out-Stmt x).kind n).0 }
-
-renaming_alike : (x : Stmt) → AllAlike (stmt_children x) → EndsAlike (OfStmt x)
-renaming_alike x h name n =
-    (let kind = (out-Stmt x).kind in
-    stmt_ending-is (stmt_renaming name x n).0
-    ∙ ap (λ (y : Stmt-F StmtKind Arm Stmt). kind_ending y.kind) (out-roll-Stmt (renaming_layer name x n))
-    ∙ ap (λ (r : StmtKind × ℕ). kind_ending r.0) (kind_numbering-is kind n)
-    ∙ kind_ending-is (kind_in_turn (layer (out-StmtKind kind)) n).0
-    ∙ kind_turn_alike (out-StmtKind kind) n h
-    ∙ sym (stmt_ending-is x ∙ kind_ending-is kind))
-
-pub renamed_ending : (name : ℕ) (x : Stmt) (n : ℕ) → stmt_ending (stmt_renaming name x n).0 ≡ stmt_ending x
-renamed_ending name x n = stmt_has EndsAlike from x name n
-  where
-    from : (y : ItemValue) → AllByRecursion EndsAlike (item_children y) → EndsAlike y
-    from (OfStmt y) h = renaming_alike y h
-    from (OfProgram p) h = tt
-    from (OfDecl d) h = tt
-    from (OfRoutine r) h = tt
-
 -- new names change nothing of how the edited program ends
 edited_paired : (old : Stmt) (path : List ℕ) (x : Stmt) (t : Tree) → program_is_paired (edited_program old path x t) ≡ block_is_paired (put_in_block path x t.block)
 edited_paired old path x t =
     (let name = (out-Stmt old).name.0 in
-    put_in_alike path (stmt_renaming name x t.next).0 x (renamed_ending name x t.next) t.block)
+    put_in_alike path (stmt_renaming name x t.next).0 x (renamed-ends name x t.next) t.block)
 
 -- so the statement may be judged without them, in the block b of the program
 pub judged : (old : Stmt) (path : List ℕ) (x : Stmt) (t : Tree) (b : Block) (paired : Bool) → b ≡ t.block → true ≡ can_stand path x b → paired ≡ block_is_paired (put_in_block path x b) → paired ≡ is_right_kind old path x t

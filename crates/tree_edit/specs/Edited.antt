@@ -1,11 +1,10 @@
 -- Edits of a program, with their faults in order.
 use Rattle.std.specs.Prelude.{◌≡◌, ℕ, ◌+◌, ◌-◌, nat_lt, Bool, true, false, not, ◌&&◌, ◌||◌, if◌then◌else◌, List, ◌∷◌, ◌++◌, length, map, Option, Some, None, option_and_then, Result, Ok, Err}
 use Rattle.pascal_tree.specs.declared.stmt.Stmt.{Stmt, out-Stmt}
-use Rattle.pascal_tree.specs.declared.stmt.StmtKind.{StmtKind, StmtKind-F, out-StmtKind}
-use Rattle.pascal_tree.specs.declared.stmt.Arm.{Arm}
 use Rattle.pascal_tree.specs.declared.decl.Block.{Block}
 use Rattle.pascal_tree.specs.declared.program.Tree.{Tree}
 use Rattle.pascal_tree.specs.Names.{Counts, names_within, stmt_renaming}
+use Rattle.pascal_tree.specs.Formed.{is_body}
 use Rattle.pascal_tree.specs.Openness.{program_is_paired}
 use Rattle.pascal_tree.specs.Paths.{ItemValue, OfStmt, tree_at}
 use Rattle.pascal_tree.specs.Rows.{Row, stmt_rows, program_rows}
@@ -18,23 +17,9 @@ use Rattle.tree_edit.specs.Place.{put_in_block, leads_to_body}
 
 -- ---- faults
 
--- a compound statement
-abbrev pub is_compound : StmtKind-F StmtKind Arm Stmt → Bool
-is_compound (StmtKind-F.Compound stmts) = true
-is_compound _ = false
-
--- there is no label
-abbrev pub is_without : Option ℕ → Bool
-is_without None = true
-is_without (Some n) = false
-
--- a compound statement without a label, as the body of a block is
-abbrev pub can_be_body : Stmt → Bool
-can_be_body s = is_compound (out-StmtKind (out-Stmt s).kind) && is_without (out-Stmt s).label
-
--- the body of a block must be such a statement, and other statements may be any
+-- the body of a block must be a compound statement without a label (6.2.1), and other statements may be any
 abbrev pub can_stand : List ℕ → Stmt → Block → Bool
-can_stand path s b = not (leads_to_body path b) || can_be_body s
+can_stand path s b = not (leads_to_body path b) || is_body s
 
 -- The program is level 1, and each item on a path is one level below the one before. So a statement at the path is on level
 -- 1 + length path, and the last level that it takes is this.

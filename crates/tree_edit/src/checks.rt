@@ -2,6 +2,7 @@
 ghost use Rattle.std.specs.Prelude.{◌≡◌, ◌+◌, nat_lt, length, slice_get};
 ghost use Rattle.pascal_tree.specs.Names.{names_within};
 ghost use Rattle.pascal_tree.specs.declared.decl.Block.{out-Block};
+ghost use Rattle.pascal_tree.specs.Formed.{is_body};
 ghost use Rattle.tree_edit.specs.Edited as spec;
 ghost use Rattle.tree_edit.specs.Place.{leads_to_body};
 
@@ -29,8 +30,8 @@ pub fn are_spent(next: u32, stmt: &Stmt) -> bool
     count > 0 && (next > LAST_NAME || count > LAST_NAME + 1 - next)
 }
 
-fn can_be_body(stmt: &Stmt) -> bool
-    ensures { result ≡ spec.can_be_body stmt.now }
+fn is_body(stmt: &Stmt) -> bool
+    ensures { result ≡ is_body stmt.now }
 {
     match &stmt.kind {
         StmtKind::Compound(_) => stmt.label.is_none(),
@@ -64,5 +65,5 @@ fn leads_to_body(block: &Block, path: &[u32]) -> bool
 pub fn can_stand(block: &Block, path: &[u32], stmt: &Stmt) -> bool
     ensures { result ≡ spec.can_stand path.now stmt.now block.now }
 {
-    can_be_body(stmt) || !leads_to_body(block, path)
+    is_body(stmt) || !leads_to_body(block, path)
 }

@@ -1,12 +1,13 @@
 //! A statement in the place of another.
 ghost use Rattle.std.specs.Prelude.{◌≡◌, IfOk, OnErr, OnOk, Some, option_copied, true};
 ghost use Rattle.program_tree.specs.Lookups.{item_value};
-ghost use Rattle.program_tree.specs.Named.{IsNamed};
+ghost use Rattle.program_tree.specs.Named.{IsProgram};
+ghost use Rattle.pascal_tree.specs.Formed.{is_formed, is_formed_stmt};
 ghost use Rattle.pascal_tree.specs.Paths.{OfStmt, tree_at};
 ghost use Rattle.pascal_tree.specs.Names.{Counts, names_within, stmt_renaming};
 ghost use Rattle.pascal_tree.specs.Openness.{program_is_paired};
 ghost use Rattle.pascal_tree.specs.declared.stmt.Stmt.{out-Stmt};
-ghost use Rattle.tree_edit.specs.Edited.{Edits, Gives, IsEditedRows, is_right_kind, replaced_program, replaced_stmt, stmt_of, with_stmt};
+ghost use Rattle.tree_edit.specs.Edited.{Edits, Gives, IsEditedRows, edited_program, is_right_kind, replaced_program, replaced_stmt, stmt_of, with_stmt};
 
 use crate::EditFault;
 use crate::blocks::put_block;
@@ -28,16 +29,17 @@ fn with_stmt(
     named: &Stmt,
     next: u32,
 ) -> Result<Program, NoMemory>
-    requires { IsNamed (with_stmt path.now (named.now, next) program.now) }
+    requires { IsProgram (with_stmt path.now (named.now, next) program.now) }
     ensures { IfOk result (λ p. p ≡ with_stmt path.now (named.now, next) program.now) }
 {
     let ident = program.ident().copy(alloc)?;
-    let files = copy_texts(alloc, program.files().as_slice())?;
+    let files = copy_texts(alloc, program.files())?;
     let block = put_block(alloc, program.block(), path, named)?;
     Program::new(alloc, ident, files, block, next)
 }
 
-// The same, where the statement bears the name of the old one at the path, and those inside it are new up to `next`.
+// The same, where the statement bears the name of the old one at the path, and those inside it are new up to `next`,
+// and the program is still formed.
 fn with_named(
     alloc: Global,
     program: &Program,
@@ -49,6 +51,7 @@ fn with_named(
     requires place { tree_at path.now program.now ≡ Some (OfStmt old.now) }
     requires name { (out-Stmt named.now).name.0 ≡ (out-Stmt old.now).name.0 }
     requires counted { Counts program.now.next (names_within named.now) next }
+    requires formed { is_formed (with_stmt path.now (named.now, next) program.now) ≡ true }
     ensures { IfOk result (λ p. p ≡ with_stmt path.now (named.now, next) program.now) }
 {
     // That each item of the program has a name of its own is a clause of this call alone.
@@ -79,7 +82,8 @@ fn with_renamed(
     old: &Stmt,
     stmt: &Stmt,
 ) -> Result<Program, NoMemory>
-    requires { tree_at path.now program.now ≡ Some (OfStmt old.now) }
+    requires place { tree_at path.now program.now ≡ Some (OfStmt old.now) }
+    requires formed { is_formed (edited_program old.now path.now stmt.now program.now) ≡ true }
     ensures { let named = stmt_renaming (out-Stmt old.now).name.0 stmt.now program.now.next in
         IfOk result (λ p. p ≡ with_stmt path.now named program.now) }
 {
@@ -103,7 +107,8 @@ fn replaced_stmt(
     name: Name,
     stmt: &Stmt,
 ) -> Result<Program, EditFault>
-    requires { tree_at path.now program.now ≡ Some (OfStmt old.now) }
+    requires place { tree_at path.now program.now ≡ Some (OfStmt old.now) }
+    requires formed { is_formed_stmt stmt.now ≡ true }
     ensures { Gives result (replaced_stmt old.now path.now name.0 stmt.now program.now) }
 {
     if !is_right_kind(program, old, path, stmt) {
@@ -115,6 +120,8 @@ fn replaced_stmt(
     if are_spent(program.next_name(), stmt) {
         return Err(EditFault::NamesSpent);
     }
+    // That the program is formed is a clause of this call alone.
+    let _tree = program.tree();
     let program = with_renamed(alloc, program, path, old, stmt)?;
     Ok(program)
 }
@@ -131,6 +138,7 @@ fn stmt_of(item: Item<'_>) -> Option<&Stmt>
 }
 
 fn replaced(alloc: Global, program: &Program, name: Name, stmt: &Stmt) -> Result<Program, EditFault>
+    requires { is_formed_stmt stmt.now ≡ true }
     ensures { Gives result (replaced_program name.0 stmt.now program.now) }
 {
     let Some(path) = program.path_of(name) else {
@@ -146,13 +154,15 @@ fn replaced(alloc: Global, program: &Program, name: Name, stmt: &Stmt) -> Result
 }
 
 /// Puts a statement in the place of the one with this name. The name stays that of the statement there, and the items
-/// inside it get new names, in the order of the text. A refusal leaves the program as it was.
+/// inside it get new names, in the order of the text. A refusal leaves the program as it was. The statement is one that
+/// some text spells, names aside, so that the program stays one.
 pub fn replace(
     alloc: Global,
     program: &mut Program,
     name: Name,
     stmt: &Stmt,
 ) -> Result<(), EditFault>
+    requires { is_formed_stmt stmt.now ≡ true }
     // The program is the edited one, or the fault is the first there is; only want of memory is free.
     ensures value { Edits result (replaced_program name.0 stmt.now program.old) program.new }
     ensures kept { OnErr result (program.new ≡ program.old) }

@@ -18,19 +18,18 @@ use Rattle.pascal_tree.specs.Expressions.{expr_at}
 use Rattle.pascal_tree.specs.Declarations.{no_name, type_at}
 use Rattle.pascal_tree.specs.Statements.{make_stmt, stmt_at}
 use Rattle.pascal_tree.specs.Programs.{make_block, make_routine, block_form, routine_form, files_form, body_at, routine_at, block_at, program_at}
-use Rattle.expression_laws.specs.FormedExprs.{is_identifier, all_formed}
-use Rattle.expression_laws.specs.Formed.{type_is_formed, is_compound, is_body, heading_is_formed, label_part_is_formed, const_is_formed, typedef_is_formed, vars_are_formed, routine_is_formed, program_is_formed}
+use Rattle.pascal_tree.specs.FormedExprs.{is_identifier, all_formed}
+use Rattle.pascal_tree.specs.Formed.{type_is_formed, is_compound, is_body, heading_is_formed, label_part_is_formed, const_is_formed, typedef_is_formed, vars_are_formed, routine_is_formed, program_is_formed}
 use Rattle.pascal_tree.specs.Openness.{routine_is_paired, program_is_paired}
-use Rattle.pascal_tree.specs.Depth.{stmt_depth}
-use Rattle.expression_laws.specs.Levels.{type_depth, decl_depth, block_depth, routine_depth, tree_levels}
+use Rattle.pascal_tree.specs.Depth.{stmt_depth, type_depth, decl_depth, block_depth, routine_depth, tree_levels}
 use Rattle.expression_laws.proofs.Words.{and-parts, and-true}
 use Rattle.expression_laws.proofs.Gives.{Fits, AllFit, Gives, Fitting, AreFormed, give, refused, choice, behind, mark, identifier, items, flat_list}
 use Rattle.expression_laws.proofs.Layers.{made}
 use Rattle.expression_laws.proofs.ExprGives.{expr-gives}
-use Rattle.statement_laws.proofs.TypeGives.{type-gives}
-use Rattle.statement_laws.proofs.DeclGives.{of_kind, constdef-gives, typedef-gives, vardef-gives, part-gives, label-part-gives, heading-gives}
-use Rattle.statement_laws.proofs.StmtLayers.{stmt_is_whole, all-parts}
-use Rattle.statement_laws.proofs.StmtGives.{compound-of, sequence-gives, stmt-given, stmt-gives}
+use Rattle.tree_laws.proofs.TypeGives.{type-gives}
+use Rattle.tree_laws.proofs.DeclGives.{of_kind, constdef-gives, typedef-gives, vardef-gives, part-gives, label-part-gives, heading-gives}
+use Rattle.tree_laws.proofs.StmtLayers.{stmt_is_whole, all-parts}
+use Rattle.tree_laws.proofs.StmtGives.{compound-of, sequence-gives, stmt-given, stmt-gives}
 use Rattle.tree_laws.proofs.BlockLayers.{block_is_whole, routine_is_whole, block_layer, routine_layer}
 
 -- ---- bodies

@@ -3,11 +3,11 @@ use Rattle.std.specs.Prelude.{◌≡◌, ℕ, Bool, ◌&&◌}
 use Rattle.pascal_tree.specs.declared.decl.Block.{Block, Block-F, roll-Block, map-Block}
 use Rattle.pascal_tree.specs.declared.decl.Routine.{Routine, Routine-F, roll-Routine, map-Routine}
 use Rattle.pascal_tree.specs.declared.decl.Block.TheFolds.{fold-roll-Block, fold-roll-Routine}
-use Rattle.expression_laws.specs.Formed.{formed_block, formed_routine, block_is_formed, routine_is_formed}
+use Rattle.pascal_tree.specs.Formed.{formed_block, formed_routine, block_is_formed, routine_is_formed}
 use Rattle.pascal_tree.specs.Openness.{paired_of_block, paired_of_routine, block_is_paired, routine_is_paired}
-use Rattle.expression_laws.specs.Levels.{depth_of_block, depth_of_routine, block_depth, routine_depth}
+use Rattle.pascal_tree.specs.Depth.{depth_of_block, depth_of_routine, block_depth, routine_depth}
 use Rattle.expression_laws.proofs.Layers.{Layer}
-use Rattle.statement_laws.proofs.StmtLayers.{both}
+use Rattle.tree_laws.proofs.StmtLayers.{both}
 
 -- ---- a layer of each, with trees in the places of its parts
 

@@ -23,21 +23,20 @@ use Rattle.pascal_tree.specs.Statements.{make_stmt, stmt_at}
 use Rattle.pascal_tree.specs.Programs.{make_block, make_routine, forward_of, block_form, routine_form, files_form, body_at, routine_at, block_at, program_at}
 use Rattle.pascal_tree.specs.Unnamed as without
 use Rattle.pascal_tree.specs.Unnamed.{unnamed_decl, unnamed_kind, unnamed_stmt, unnamed_block, unnamed_routine, unnamed_program}
-use Rattle.expression_laws.specs.FormedExprs.{is_identifier, all_formed}
-use Rattle.expression_laws.specs.Formed.{formed_label, kind_is_formed, type_is_formed, is_compound, is_body, stmt_is_formed, routine_is_formed}
+use Rattle.pascal_tree.specs.FormedExprs.{is_identifier, all_formed}
+use Rattle.pascal_tree.specs.Formed.{formed_label, kind_is_formed, type_is_formed, is_compound, is_body, stmt_is_formed, routine_is_formed}
 use Rattle.pascal_tree.specs.Openness.{kind_ending, stmt_ending, routine_is_paired}
-use Rattle.pascal_tree.specs.Depth.{stmt_depth, kind_depth}
-use Rattle.expression_laws.specs.Levels.{decls_depth, type_depth, block_depth, routine_depth}
+use Rattle.pascal_tree.specs.Depth.{stmt_depth, kind_depth, decls_depth, type_depth, block_depth, routine_depth}
 use Rattle.expression_laws.specs.Spelled.{Spelled}
 use Rattle.expression_laws.proofs.Words.{and-parts, and-true, ident_lexeme}
 use Rattle.expression_laws.proofs.Gives.{Fits}
 use Rattle.expression_laws.proofs.Layers.{opened, some_levels}
 use Rattle.expression_laws.proofs.Spells.{Spelling, done, left, right, after, single, identifier, word, sign, items_as, flat_list}
 use Rattle.expression_laws.proofs.ExprSpells.{expr-spelled}
-use Rattle.statement_laws.proofs.TypeSpells.{type-spelled}
-use Rattle.statement_laws.proofs.DeclSpells.{constdef-spelled, typedef-spelled, vardef-spelled, part-spelled, label-part-spelled, heading-spelled}
-use Rattle.statement_laws.proofs.StmtLayers.{paired, stmt_formed, KindLayer, kind_is_whole, stmt_is_whole, kind_layer, stmt_layer, some-whole, all-whole}
-use Rattle.statement_laws.proofs.StmtSpells.{kind-unnamed, stmt-unnamed, compound-spelled, stmt-spelled}
+use Rattle.tree_laws.proofs.TypeSpells.{type-spelled}
+use Rattle.tree_laws.proofs.DeclSpells.{constdef-spelled, typedef-spelled, vardef-spelled, part-spelled, label-part-spelled, heading-spelled}
+use Rattle.tree_laws.proofs.StmtLayers.{paired, stmt_formed, KindLayer, kind_is_whole, stmt_is_whole, kind_layer, stmt_layer, some-whole, all-whole}
+use Rattle.tree_laws.proofs.StmtSpells.{kind-unnamed, stmt-unnamed, compound-spelled, stmt-spelled}
 use Rattle.tree_laws.proofs.BlockLayers.{BlockLayer, block_is_whole, routine_is_whole, block_layer, routine_layer}
 use Rattle.tree_laws.proofs.BlockGives.{ProgramFits}
 

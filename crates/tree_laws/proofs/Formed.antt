@@ -1,6 +1,7 @@
 -- A tree is formed exactly where some tokens of a text spell it, names aside.
-use Rattle.std.specs.Prelude.{◌≡◌, ℕ, ◌≤◌, leb, Bool, true, ◌&&◌, map}
-use Rattle.expression_laws.specs.FormedExprs.{is_identifier, all_formed}
+use Rattle.std.specs.Prelude.{◌≡◌, ℕ, ◌-◌, ◌≤◌, leb, Bool, true, ◌&&◌, map}
+use Rattle.std.specs.List.{AllByRecursion}
+use Rattle.pascal_tree.specs.FormedExprs.{is_identifier, all_formed}
 use Rattle.std.proofs.Common.{sym, ap, subst, ◌∙◌, leb-true, le-leb}
 use Rattle.std.specs.Bool.{Decides}
 use Rattle.pascal_tree.specs.declared.levels.TheConstants.{LEVELS}
@@ -9,19 +10,23 @@ use Rattle.pascal_tree.specs.declared.decl.Decl.{Decl}
 use Rattle.pascal_tree.specs.declared.decl.Heading.{Heading}
 use Rattle.pascal_tree.specs.declared.decl.Routine.{Routine}
 use Rattle.pascal_tree.specs.declared.program.Tree.{Tree}
+use Rattle.dice_base.specs.Tokens.{Toks}
+use Rattle.pascal_tree.specs.Declarations.{decl_at, heading_form}
+use Rattle.pascal_tree.specs.Statements.{stmt_at}
+use Rattle.pascal_tree.specs.Programs.{routine_at, program_at}
+use Rattle.pascal_tree.specs.Sources.{HasLexeme}
 use Rattle.pascal_tree.specs.Unnamed.{unnamed_stmt, unnamed_decl, unnamed_routine, unnamed_program}
-use Rattle.expression_laws.specs.Formed.{routine_is_formed, stmt_is_formed, decl_is_formed, heading_is_formed, is_formed, is_formed_stmt, is_formed_decl, is_formed_routine}
+use Rattle.pascal_tree.specs.Formed.{routine_is_formed, stmt_is_formed, decl_is_formed, heading_is_formed, is_formed, is_formed_stmt, is_formed_decl, is_formed_routine}
 use Rattle.pascal_tree.specs.Openness.{routine_is_paired, Ending, is_open, stmt_ending}
-use Rattle.pascal_tree.specs.Depth.{stmt_depth}
-use Rattle.expression_laws.specs.Levels.{decl_depth, routine_depth, tree_levels}
+use Rattle.pascal_tree.specs.Depth.{stmt_depth, decl_depth, routine_depth, tree_levels}
 use Rattle.tree_laws.specs.Spelled.{IsSpelled, IsSpelledStmt, IsSpelledDecl, IsSpelledRoutine, IsSpelledHeading}
 use Rattle.expression_laws.proofs.Words.{and-parts, and-true}
 use Rattle.expression_laws.proofs.Gives.{Fits}
-use Rattle.statement_laws.proofs.StmtLayers.{stmt_is_whole}
-use Rattle.statement_laws.proofs.StmtGives.{stmt-gives}
-use Rattle.statement_laws.proofs.StmtSpells.{stmt-spelled}
-use Rattle.statement_laws.proofs.DeclGives.{decl-gives, heading-gives}
-use Rattle.statement_laws.proofs.DeclSpells.{decl-spelled, heading-spelled}
+use Rattle.tree_laws.proofs.StmtLayers.{stmt_is_whole}
+use Rattle.tree_laws.proofs.StmtGives.{stmt-gives}
+use Rattle.tree_laws.proofs.StmtSpells.{stmt-spelled}
+use Rattle.tree_laws.proofs.DeclGives.{decl-gives, heading-gives}
+use Rattle.tree_laws.proofs.DeclSpells.{decl-spelled, heading-spelled}
 use Rattle.tree_laws.proofs.BlockGives.{ProgramFits, program-gives, routine-gives}
 use Rattle.tree_laws.proofs.BlockSpells.{program-spelled, routine-spelled}
 use Rattle.tree_laws.proofs.Nameless.{stmt-formed, stmt-levels, stmt-ends, block-formed, block-levels, block-paired, routine-formed, routine-levels, routine-paired}
@@ -31,6 +36,38 @@ use Rattle.tree_laws.proofs.BlockLayers.{routine_is_whole}
 
 three-true : (a b : Bool) (n : ℕ) → a ≡ true → b ≡ true → n ≤ LEVELS → (a && b && leb n LEVELS) ≡ true
 three-true a b n p q h = and-true _ _ (and-true a b p q) (le-leb n LEVELS h)
+
+-- ---- what tokens of a text spell
+
+pub program-read : (p : Tree) (w : Bool) (ts : Toks) → (program_at (LEVELS - 1)).full p w ts → AllByRecursion HasLexeme ts
+    → is_formed p ≡ true
+program-read p w ts h each =
+    let f = (program-gives 63).given p w ts h each in
+    three-true _ _ (tree_levels p) f.is_formed f.is_paired f.levels
+
+pub stmt-read : (x : Stmt) (w : Bool) (ts : Toks) → (stmt_at LEVELS).full x w ts → AllByRecursion HasLexeme ts
+    → is_formed_stmt x ≡ true
+stmt-read x w ts h each =
+    let f = ((stmt-gives LEVELS).given x w ts h each).fits in
+    and-true (stmt_is_whole x) (leb (stmt_depth x) LEVELS) f.is_formed (le-leb (stmt_depth x) LEVELS f.levels)
+
+pub decl-read : (d : Decl) (w : Bool) (ts : Toks) → (decl_at LEVELS).full d w ts → AllByRecursion HasLexeme ts
+    → is_formed_decl d ≡ true
+decl-read d w ts h each =
+    let f = (decl-gives LEVELS).given d w ts h each in
+    and-true (decl_is_formed d.kind) (leb (decl_depth d.kind) LEVELS) f.is_formed
+    (le-leb (decl_depth d.kind) LEVELS f.levels)
+
+pub heading-read : (h : Heading) (w : Bool) (ts : Toks) → heading_form.full h w ts → AllByRecursion HasLexeme ts
+    → heading_is_formed h ≡ true
+heading-read h w ts k each = heading-gives.given h w ts k each
+
+pub routine-read : (r : Routine) (w : Bool) (ts : Toks) → (routine_at LEVELS).full r w ts → AllByRecursion HasLexeme ts
+    → is_formed_routine r ≡ true
+routine-read r w ts h each =
+    let f = (routine-gives LEVELS).given r w ts h each in
+    and-true (routine_is_whole r) (leb (routine_depth r) LEVELS) f.is_formed
+    (le-leb (routine_depth r) LEVELS f.levels)
 
 -- ---- programs
 

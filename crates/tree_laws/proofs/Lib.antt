@@ -1,7 +1,16 @@
+pub mod DeclGives
+pub mod DeclSpells
+pub mod StmtGives
+pub mod StmtLayers
+pub mod StmtSpells
+pub mod TypeGives
+pub mod TypeLayers
+pub mod TypeSpells
 pub mod BlockGives
 pub mod BlockLayers
 pub mod BlockSpells
 pub mod Folds
 pub mod Formed
 pub mod Nameless
+pub mod Numbered
 pub mod Renamed

@@ -20,13 +20,12 @@ use Rattle.pascal_tree.specs.declared.decl.Routine.{Routine, Routine-F, out-Rout
 use Rattle.pascal_tree.specs.declared.decl.Block.TheFolds.{map-Routine, fold-roll-Block, fold-roll-Routine}
 use Rattle.pascal_tree.specs.Statements.{make_stmt}
 use Rattle.pascal_tree.specs.Programs.{make_routine}
-use Rattle.expression_laws.specs.FormedExprs.{all_formed}
-use Rattle.expression_laws.specs.Formed.{formed_kind, formed_arm, formed_stmt, formed_block, formed_routine, part_is_formed, label_part_is_formed, const_is_formed, typedef_is_formed, vars_are_formed, is_compound, is_body, stmt_is_formed, block_is_formed, routine_is_formed}
-use Rattle.pascal_tree.specs.Depth.{most, depth_of_kind, depth_of_arm, depth_of_stmt, stmt_depth}
-use Rattle.expression_laws.specs.Levels.{depth_of_block, depth_of_routine, decl_depth, decls_depth, block_depth, routine_depth}
+use Rattle.pascal_tree.specs.FormedExprs.{all_formed}
+use Rattle.pascal_tree.specs.Formed.{formed_kind, formed_arm, formed_stmt, formed_block, formed_routine, part_is_formed, label_part_is_formed, const_is_formed, typedef_is_formed, vars_are_formed, is_compound, is_body, stmt_is_formed, block_is_formed, routine_is_formed}
+use Rattle.pascal_tree.specs.Depth.{most, depth_of_kind, depth_of_arm, depth_of_stmt, stmt_depth, depth_of_block, depth_of_routine, decl_depth, decls_depth, block_depth, routine_depth}
 use Rattle.pascal_tree.specs.Openness.{Ending, ending_of_kind, ending_of_arm, ending_of_stmt, stmt_ending, paired_of_block, paired_of_routine, block_is_paired, routine_is_paired}
-use Rattle.statement_laws.proofs.StmtLayers.{KindLayer, StmtLayer}
-use Rattle.statement_laws.proofs.StmtSpells.{kind-unnamed, stmt-unnamed}
+use Rattle.tree_laws.proofs.StmtLayers.{KindLayer, StmtLayer}
+use Rattle.tree_laws.proofs.StmtSpells.{kind-unnamed, stmt-unnamed}
 use Rattle.tree_laws.proofs.BlockSpells.{routine-unnamed}
 use Rattle.tree_laws.proofs.Folds.{Agree, agreed, AgreeOnBlocks, agreed_block}
 

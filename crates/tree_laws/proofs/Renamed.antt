@@ -9,11 +9,12 @@ use Rattle.pascal_tree.specs.declared.stmt.Arm.{Arm, Arm-F, fold-Arm}
 use Rattle.pascal_tree.specs.declared.stmt.StmtKind.TheFolds.{map-StmtKind, fold-roll-StmtKind, fold-roll-Arm, fold-roll-Stmt}
 use Rattle.pascal_tree.specs.Names.{stmt_renaming}
 use Rattle.pascal_tree.specs.Naming.{Numbering, list_numbering, kind_in_turn, arm_in_turn, stmt_in_turn, kind_numbering, arm_numbering, stmt_numbering}
-use Rattle.expression_laws.specs.Formed.{formed_kind, formed_arm, formed_stmt, is_compound, is_body, stmt_is_formed}
+use Rattle.pascal_tree.specs.Formed.{formed_kind, formed_arm, formed_stmt, is_compound, is_body, stmt_is_formed}
 use Rattle.pascal_tree.specs.Depth.{depth_of_kind, depth_of_arm, depth_of_stmt, stmt_depth}
+use Rattle.pascal_tree.specs.Openness.{ending_of_kind, ending_of_arm, ending_of_stmt, stmt_ending}
 use Rattle.expression_laws.proofs.Words.{and-parts, and-true}
-use Rattle.statement_laws.proofs.StmtLayers.{KindLayer, StmtLayer}
-use Rattle.tree_laws.proofs.Folds.{Agree, agreed_kind}
+use Rattle.tree_laws.proofs.StmtLayers.{KindLayer, StmtLayer}
+use Rattle.tree_laws.proofs.Folds.{Agree, agreed, agreed_kind}
 
 -- ---- what is folded by steps of which none reads a name
 
@@ -102,6 +103,11 @@ module _ {L B T : Type 0} (kind : StmtKind-F L B T → L) (arm : Arm-F L B T →
           ∙ nameless _ y.name y.label y.kind.1;
     }
 
+    pub stmt-numbered : (x : Stmt) (n : ℕ)
+        → fold-Stmt L B T kind arm stmt (stmt_numbering x n).0 ≡ fold-Stmt L B T kind arm stmt x
+    unfolding stmt_numbering
+    stmt-numbered x n = agreed kind_in_turn arm_in_turn stmt_in_turn kind arm stmt KindIs ArmIs StmtIs same x n
+
     kind-renamed : (k : StmtKind) (n : ℕ) → of_kind (kind_numbering k n).0 ≡ of_kind k
     unfolding kind_numbering
     kind-renamed k n = agreed_kind kind_in_turn arm_in_turn stmt_in_turn kind arm stmt KindIs ArmIs StmtIs same k n
@@ -116,7 +122,7 @@ module _ {L B T : Type 0} (kind : StmtKind-F L B T → L) (arm : Arm-F L B T →
         ∙ sym (fold-roll-Stmt L B T kind arm stmt y)
         ∙ ap of_stmt (roll-out-Stmt x)
 
--- ---- that a statement is formed, its levels, and that it is a body
+-- ---- that a statement is formed, its levels, how it ends, and that it is a body
 
 pub renamed-formed : (name : ℕ) (x : Stmt) (next : ℕ)
     → stmt_is_formed (stmt_renaming name x next).0 ≡ stmt_is_formed x
@@ -126,6 +132,10 @@ renamed-formed name x next = stmt-renamed formed_kind formed_arm formed_stmt (λ
 pub renamed-levels : (name : ℕ) (x : Stmt) (next : ℕ) → stmt_depth (stmt_renaming name x next).0 ≡ stmt_depth x
 unfolding stmt_depth
 renamed-levels name x next = stmt-renamed depth_of_kind depth_of_arm depth_of_stmt (λ n m label k. refl) name x next
+
+pub renamed-ends : (name : ℕ) (x : Stmt) (next : ℕ) → stmt_ending (stmt_renaming name x next).0 ≡ stmt_ending x
+unfolding stmt_ending
+renamed-ends name x next = stmt-renamed ending_of_kind ending_of_arm ending_of_stmt (λ n m label k. refl) name x next
 
 abbrev layer_in_turn : KindLayer → Numbering StmtKind
 layer_in_turn x =

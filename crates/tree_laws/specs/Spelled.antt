@@ -8,7 +8,7 @@ use Rattle.pascal_tree.specs.declared.program.Tree.{Tree}
 use Rattle.pascal_tree.specs.declared.stmt.Stmt.{Stmt}
 use Rattle.pascal_tree.specs.Programs.{Derives, DerivesStmt, DerivesDecl, DerivesRoutine, DerivesHeading}
 use Rattle.pascal_tree.specs.Unnamed.{unnamed_stmt, unnamed_decl, unnamed_routine, unnamed_program}
-use Rattle.expression_laws.specs.Spelled.{HasLexeme}
+use Rattle.pascal_tree.specs.Sources.{HasLexeme}
 
 -- tokens of which each is one of some text, and of which this holds
 pub record Holds (P : Toks → Type 0) : Type 0 where

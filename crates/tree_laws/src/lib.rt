@@ -2,7 +2,7 @@
 #![tactic(auto)]
 
 ghost use Rattle.std.specs.Bool.{Decides};
-ghost use Rattle.expression_laws.specs.Formed.{is_formed, is_formed_stmt, is_formed_decl, is_formed_routine, heading_is_formed};
+ghost use Rattle.pascal_tree.specs.Formed.{is_formed, is_formed_stmt, is_formed_decl, is_formed_routine, heading_is_formed};
 ghost use Rattle.tree_laws.specs.Spelled.{IsSpelled, IsSpelledStmt, IsSpelledDecl, IsSpelledRoutine, IsSpelledHeading};
 
 use pascal_tree::{Decl, Heading, Routine, Stmt, Tree};

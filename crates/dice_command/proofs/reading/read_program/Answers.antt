@@ -1,8 +1,15 @@
 use Rattle.std.proofs.Common.{ap, subst, sym}
 use Rattle.dice_base.specs.Lexemes.{Lexes}
+use Rattle.std.specs.Prelude.{[]}
 use Rattle.token_reader.specs.Answers.{kinds}
+use Rattle.expression_laws.proofs.Words.{lexes_each}
 use Rattle.dice_command.proofs.Readings.{not-long, ok-err}
 use Rattle.dice_command.proofs.reading.read_program.Goals as goal
+
+pub parse_program-requires-lexemes : goal.parse_program-requires-lexemes
+parse_program-requires-lexemes c =
+    lexes_each [] c.args.text.now (kinds c.deref.result.now)
+    (subst (Lexes c.args.text.now) (sym (ap kinds c.deref.ensures.value)) c.in_ok-tokens.ensures.tokens)
 
 pub returns : goal.returns
 returns c = record {

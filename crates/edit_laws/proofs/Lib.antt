@@ -1,3 +1,0 @@
-pub mod FormedAfter
-pub mod LevelsAfter
-pub mod Replaced

@@ -1,7 +1,0 @@
-mod Examples
-pub mod Column
-pub mod ListedNames
-pub mod Moved
-pub mod OneText
-pub mod ReadsBack
-pub mod Unnamed

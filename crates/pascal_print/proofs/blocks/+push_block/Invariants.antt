@@ -1,6 +1,0 @@
-use Rattle.std.proofs.Common.{◌≡◌, ◌++◌, drop, map}
-use Rattle.pascal_print.specs.Events.{child, ended, routine_events}
-use Rattle.pascal_print.proofs.blocks.+push_block.Given as goal
-
-abbrev pub invariant-push_routines-loop-routine : goal.invariant-push_routines-loop-routine
-invariant-push_routines-loop-routine l = l.out ++ ended (map child (map routine_events (drop l.routine-index l.routines))) l.level ≡ l.fn.out ++ ended (map child (map routine_events l.routines)) l.level

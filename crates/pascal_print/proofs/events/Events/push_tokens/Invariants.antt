@@ -1,6 +1,0 @@
-use Rattle.std.proofs.Common.{◌≡◌, ◌++◌}
-use Rattle.pascal_print.specs.Events.{said}
-use Rattle.pascal_print.proofs.events.Events.push_tokens.Given as goal
-
-abbrev pub invariant-loop-token : goal.invariant-loop-token
-invariant-loop-token l = l.self ≡ l.fn.self ++ said l.yielded

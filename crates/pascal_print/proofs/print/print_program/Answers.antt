@@ -1,0 +1,8 @@
+use Rattle.pascal_print.proofs.Printed.{printed-back, printed-names}
+use Rattle.pascal_print.proofs.print.print_program.Goals as goal
+
+pub returns-clause-reads_back : goal.returns-clause-reads_back
+returns-clause-reads_back c = printed-back c.args.names c.args.program.now c.tree.ensures.invariant _ c.list_program.ensures
+
+pub returns-clause-names : goal.returns-clause-names
+returns-clause-names c = printed-names c.args.names c.args.program.now c.tree.ensures.invariant _ c.list_program.ensures

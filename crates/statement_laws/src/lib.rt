@@ -1,2 +1,0 @@
-//! Which types, declarations, headings and statements a text can spell.
-#![tactic(auto)]
