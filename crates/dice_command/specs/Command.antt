@@ -42,7 +42,7 @@ IsAskedFor (Bad fault) body c = c ≡ command.Bad fault
 abbrev pub IsCommandOf : List ℕ → List ℕ → Command → Type 0
 IsCommandOf line body c = IsAskedFor (asked_of line) body c
 
-abbrev is_load : Asked → Bool
+abbrev pub is_load : Asked → Bool
 is_load Load = true
 is_load other = false
 
@@ -50,7 +50,7 @@ is_load other = false
 abbrev pub takes_text : List ℕ → Bool
 takes_text line = is_load (asked_of line)
 
-abbrev asks_to_quit : Asked → Bool
+abbrev pub asks_to_quit : Asked → Bool
 asks_to_quit Quit = true
 asks_to_quit other = false
 
