@@ -147,14 +147,14 @@ fn layouts(rt: HostRuntime) -> Result<(), Fail> {
     Ok(())
 }
 
-// What a layout says where the array type has components up to this index: 0 for a layout, else the words, and 10,000 more
-// for a frame.
-fn fault(alloc: Global, last: i32) -> Result<u32, NoMemory> {
+// The words of the globals or of a frame that are too many, where the array type has components up to this index; 0 where
+// they are not.
+fn fault(alloc: Global, last: i32) -> Result<(u32, u32), NoMemory> {
     let core = core(alloc, last)?;
     match layout(alloc, &core) {
-        Ok(_) => Ok(0),
-        Err(LayoutFault::GlobalsFull(words)) => Ok(words),
-        Err(LayoutFault::FrameTooLarge(Name(2), words)) => Ok(10_000 + words),
+        Ok(_) => Ok((0, 0)),
+        Err(LayoutFault::GlobalsFull(words)) => Ok((words, 0)),
+        Err(LayoutFault::FrameTooLarge(Name(2), words)) => Ok((0, words)),
         Err(_) => Err(NoMemory),
     }
 }
@@ -164,10 +164,10 @@ fn faults_of_layouts(rt: HostRuntime) -> Result<(), Fail> {
     let alloc = rt.alloc();
     // V is 3 and the array, and the globals are 1 and the array: 45 + 3 + 2,000 is 2,048, and 1 + 4,095 is 4,096
     let is = [
-        fault(alloc, 2_000)? == 0,
-        fault(alloc, 2_001)? == 12_049,
-        fault(alloc, 4_095)? == 14_143,
-        fault(alloc, 4_096)? == 4_097,
+        fault(alloc, 2_000)? == (0, 0),
+        fault(alloc, 2_001)? == (0, 2_049),
+        fault(alloc, 4_095)? == (0, 4_143),
+        fault(alloc, 4_096)? == (4_097, 0),
     ];
     assert!(rt; is == [true; 4]);
     Ok(())
