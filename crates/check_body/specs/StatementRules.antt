@@ -213,10 +213,11 @@ is_own owner v = v.local && nat_eq v.owner.0 owner.0
 
 abbrev pub control_of : Env → Text → List VariableName → Option Entity → Typing × ℕ
 control_of env x inside None = (Unknown, UNKNOWN)
-control_of env x inside (Some (VariableOf v)) =
-    (ordinal_or_unknown env.table v.typing,
-     min (kind_unless (may_be_ordinal env.table v.typing) WRONG_TYPE)
-         (kind_unless (is_own env.owner v && not (has_variable env.changed (v.owner.0, x)) && not (has_variable inside (v.owner.0, x))) WRONG_CONTROL))
+control_of env x inside (Some (VariableOf v)) = (
+  ordinal_or_unknown env.table v.typing,
+  min (kind_unless (may_be_ordinal env.table v.typing) WRONG_TYPE)
+      (kind_unless (is_own env.owner v && not (has_variable env.changed (v.owner.0, x)) && not (has_variable inside (v.owner.0, x))) WRONG_CONTROL),
+)
 control_of env x inside (Some (FileOf b)) = (Unknown, WRONG_TYPE)
 control_of env x inside (Some e) = (Unknown, WRONG_CLASS)
 
@@ -397,10 +398,10 @@ statement_judge labels name label k = record {
   label = label;
   changes = k.changes;
   kinds = (λ env reach.
-    record {
-      name = name;
-      kind = min (label_kind labels label) (k.own env (option_to_list label ++ reach));
-    } ∷ k.inner env (option_to_list label ++ reach));
+      record {
+        name = name;
+        kind = min (label_kind labels label) (k.own env (option_to_list label ++ reach));
+      } ∷ k.inner env (option_to_list label ++ reach));
 }
 
 -- the first that is not clean

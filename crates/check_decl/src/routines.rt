@@ -42,6 +42,7 @@ fn name_of(routine: &Routine) -> Name
     routine.name
 }
 
+/// The next item that has the block of a forward heading: with its identifier, and of its class.
 pub fn block_for(heading: &Heading, later: &[Routine]) -> Option<Name>
     ensures { result ≡ spec.block_for heading.now (map (folds.routine_judge folds.bodyless) later.now) }
 {
@@ -68,6 +69,7 @@ fn copy_parameters(alloc: Global, parameters: &[Parameter]) -> Result<Items<Para
     Ok(all)
 }
 
+/// A copy of what is known of a routine.
 pub fn copy_routine(alloc: Global, routine: &RoutineEntity) -> Result<RoutineEntity, NoMemory>
     ensures { IfOk result (λ f. f ≡ routine.now) }
 {
@@ -168,6 +170,7 @@ fn with_result_row(
     })
 }
 
+/// The begin of a block that will declare these identifiers. Takes no memory.
 pub fn new_block(alloc: Global, known: Known, idents: Items<Text>) -> At
     ensures { result ≡ spec.new_block known idents }
 {
@@ -179,6 +182,7 @@ pub fn new_block(alloc: Global, known: Known, idents: Items<Text>) -> At
     }
 }
 
+/// The begin of the block of a routine: its result has the first words, then its parameters.
 pub fn place_inside(
     alloc: Global,
     ident: &Text,
@@ -207,6 +211,7 @@ fn copy_names(alloc: Global, names: &[Name]) -> Result<Items<Name>, NoMemory>
     Ok(all)
 }
 
+/// A routine as the owner of its block, in the block of another.
 pub fn owner_of(alloc: Global, routine: &RoutineEntity, owner: &Owner) -> Result<Owner, NoMemory>
     ensures { IfOk result (λ o. o ≡ spec.owner_of routine.now owner.now) }
 {

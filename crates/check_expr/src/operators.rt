@@ -14,6 +14,7 @@ use check_rules::{
 use dice_base::NoMemory;
 use pascal_tree::{AddOp, MulOp, Prefix, RelOp};
 
+/// Whether a type is ordinal with this host, or unknown.
 pub fn may_be_host(table: &[WrittenType], host: Host, typing: Typing) -> bool
     ensures { result ≡ spec.may_be_host table.now host typing }
 {
@@ -26,6 +27,7 @@ pub fn may_be_host(table: &[WrittenType], host: Host, typing: Typing) -> bool
     }
 }
 
+/// Whether a type is ordinal, or unknown.
 pub fn may_be_ordinal(table: &[WrittenType], typing: Typing) -> bool
     ensures { result ≡ spec.may_be_ordinal table.now typing }
 {
@@ -35,6 +37,7 @@ pub fn may_be_ordinal(table: &[WrittenType], typing: Typing) -> bool
     }
 }
 
+/// Whether two types are compatible ordinals, or one of them is unknown.
 pub fn may_be_compatible(table: &[WrittenType], a: Typing, b: Typing) -> bool
     ensures { result ≡ spec.may_be_compatible table.now a b }
 {
@@ -99,6 +102,7 @@ fn arithmetic_type(table: &[WrittenType], a: Typing, b: Typing) -> (Typing, u8)
     }
 }
 
+/// The type that an adding operator makes of two, and the kind of fault.
 pub fn sum_type(table: &[WrittenType], op: AddOp, a: Typing, b: Typing) -> (Typing, u8)
     ensures { result ≡ spec.sum_type table.now op a b }
 {
@@ -108,6 +112,7 @@ pub fn sum_type(table: &[WrittenType], op: AddOp, a: Typing, b: Typing) -> (Typi
     }
 }
 
+/// The type that a multiplying operator makes of two, and the kind of fault.
 pub fn product_type(table: &[WrittenType], op: MulOp, a: Typing, b: Typing) -> (Typing, u8)
     ensures { result ≡ spec.product_type table.now op a b }
 {
@@ -180,6 +185,7 @@ pub fn judgement_of_both(a: Judged, b: Judged, made: (Typing, u8)) -> Result<Jud
     })
 }
 
+/// A relation of two values (6.7.2.5).
 pub fn relation_judgement(
     table: &[WrittenType],
     op: RelOp,
@@ -196,6 +202,7 @@ pub fn relation_judgement(
     })
 }
 
+/// A value behind a sign (6.7.2.2).
 pub fn signed_judgement(table: &[WrittenType], prefix: Prefix, value: Judged) -> Judged
     ensures { result ≡ spec.signed_judgement table.now prefix value }
 {
@@ -211,6 +218,7 @@ pub fn signed_judgement(table: &[WrittenType], prefix: Prefix, value: Judged) ->
     }
 }
 
+/// The negation of a value (6.7.2.3).
 pub fn negation(table: &[WrittenType], value: Judged) -> Judged
     ensures { result ≡ exprs.negation table.now value }
 {

@@ -9,6 +9,7 @@ use dice_base::{NoMemory, Text};
 use sqlite_items::Items;
 use std::alloc::Global;
 
+/// Whether a list has the identifier. A linear search.
 pub fn has_ident(idents: &[Text], ident: &[u8]) -> bool
     ensures { result ≡ spec.has_ident idents.now ident.now }
 {
@@ -20,6 +21,7 @@ pub fn has_ident(idents: &[Text], ident: &[u8]) -> bool
     false
 }
 
+/// What a region declares the identifier as so far. A linear search.
 pub fn entity_in<'a>(declared: &'a [Declared], ident: &[u8]) -> Option<&'a Entity>
     ensures { option_copied result ≡ spec.entity_in declared.now ident.now }
 {
@@ -31,6 +33,8 @@ pub fn entity_in<'a>(declared: &'a [Declared], ident: &[u8]) -> Option<&'a Entit
     None
 }
 
+/// What the identifier stands for in a region, where it stands for `outer` outside: unknown where the region declares it
+/// only later.
 pub fn entity_through<'a>(
     region: &'a Region,
     ident: &[u8],
@@ -50,6 +54,7 @@ pub fn entity_through<'a>(
     }
 }
 
+/// What the identifier stands for within regions, the outermost of which is the first, where it stands for `outer` outside.
 pub fn entity_within<'a>(
     outer: Option<&'a Entity>,
     regions: &'a [Region],

@@ -7,6 +7,7 @@ use crate::kinds::MAX_COUNTED;
 use crate::{Host, Structure, Typing, WrittenType};
 use sqlite_items::at;
 
+/// How a written type is made; `None` for every other type.
 pub fn structure_at<'a>(table: &'a [WrittenType], typing: Typing) -> Option<&'a Structure>
     ensures { option_copied result ≡ spec.structure_at table.now typing }
 {
@@ -19,6 +20,7 @@ pub fn structure_at<'a>(table: &'a [WrittenType], typing: Typing) -> Option<&'a 
     }
 }
 
+/// Whether two hosts are one.
 pub fn is_same_host(a: Host, b: Host) -> bool
     ensures { result ≡ spec.is_same_host a b }
 {

@@ -20,6 +20,7 @@ fn is_same_packing(p: Packing, q: Packing) -> bool
     }
 }
 
+/// The base and the packing of a set type (6.4.3.4); `None` for every other type.
 pub fn set_of(table: &[WrittenType], typing: Typing) -> Option<Set>
     ensures { result ≡ spec.set_of table.now typing }
 {
@@ -50,6 +51,7 @@ fn are_compatible_packings(p: Packing, q: Packing) -> bool
     }
 }
 
+/// Whether two set types are compatible (6.4.5 c).
 pub fn sets_agree(a: Set, b: Set) -> bool
     ensures { result ≡ spec.are_compatible_bases a b }
 {
@@ -60,6 +62,7 @@ pub fn sets_agree(a: Set, b: Set) -> bool
     }
 }
 
+/// The type of a union, a difference or an intersection of compatible sets (6.7.2.4).
 pub fn set_type(a: Set, b: Set) -> Typing
     ensures { result ≡ spec.set_type a b }
 {
@@ -74,6 +77,7 @@ pub fn set_type(a: Set, b: Set) -> Typing
     }
 }
 
+/// Whether two types are compatible set types.
 pub fn are_compatible_sets(table: &[WrittenType], a: Typing, b: Typing) -> bool
     ensures { result ≡ spec.are_compatible_sets (spec.set_of table.now a) (spec.set_of table.now b) }
 {
@@ -113,6 +117,7 @@ pub fn string_length(table: &[WrittenType], typing: Typing) -> Option<u32>
     }
 }
 
+/// Whether two types are string types of one length (6.4.5 d).
 pub fn are_same_strings(table: &[WrittenType], a: Typing, b: Typing) -> bool
     ensures { result ≡ spec.are_same_lengths (spec.string_length table.now a) (spec.string_length table.now b) }
 {
@@ -122,6 +127,7 @@ pub fn are_same_strings(table: &[WrittenType], a: Typing, b: Typing) -> bool
     }
 }
 
+/// What a pointer type leads to (6.4.4); `None` for every other type.
 pub fn domain_of(table: &[WrittenType], typing: Typing) -> Option<Domain>
     ensures { result ≡ spec.domain_of table.now typing }
 {
@@ -144,6 +150,7 @@ pub fn is_same_type(a: Typing, b: Typing) -> bool
     }
 }
 
+/// Whether two types are compatible (6.4.5).
 pub fn are_compatible(table: &[WrittenType], a: Typing, b: Typing) -> bool
     ensures { result ≡ spec.are_compatible table.now a b }
 {
@@ -153,6 +160,7 @@ pub fn are_compatible(table: &[WrittenType], a: Typing, b: Typing) -> bool
         || are_same_strings(table, a, b)
 }
 
+/// Whether a value of type `b` may be assigned to a variable of type `a` (6.4.6). An unknown type fits every other.
 pub fn are_assignable(table: &[WrittenType], a: Typing, b: Typing) -> bool
     ensures { result ≡ spec.is_assignable table.now a b }
 {
@@ -164,6 +172,7 @@ pub fn are_assignable(table: &[WrittenType], a: Typing, b: Typing) -> bool
     }
 }
 
+/// Whether `=` and `<>` compare two types as pointers of one type, `nil` among them (6.7.2.5).
 pub fn are_comparable_pointers(table: &[WrittenType], a: Typing, b: Typing) -> bool
     ensures { result ≡ spec.are_comparable_pointers table.now a b }
 {

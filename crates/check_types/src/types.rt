@@ -105,6 +105,7 @@ fn copy_texts(alloc: Global, idents: &[Text]) -> Result<Items<Text>, NoMemory>
     Ok(all)
 }
 
+/// An enumeration, whose identifiers are declared in the region of the block (6.4.2.3).
 pub fn enumeration(alloc: Global, state: &mut TypeState, idents: &[Text]) -> Result<Typed, NoMemory>
     ensures { IfOk result (λ r. spec.judgement state.new r.typing r.kind ≡ spec.enumeration state.old idents.now) }
 {
@@ -202,6 +203,7 @@ fn constant_in(
     )
 }
 
+/// A subrange from a first to a last constant (6.4.2.4).
 pub fn subrange(
     alloc: Global,
     outer: &[Region],
@@ -239,6 +241,7 @@ fn is_set_range(bounds: (i32, i32)) -> bool
     0 <= bounds.0 && bounds.1 <= 127
 }
 
+/// A set of a base type (6.4.3.4).
 pub fn set_over(state: &mut TypeState, packed: bool, base: Typed) -> Result<Typed, NoMemory>
     ensures { IfOk result (λ r. spec.judgement state.new r.typing r.kind ≡ spec.set_type packed (spec.judgement state.old base.typing base.kind)) }
 {
@@ -394,6 +397,7 @@ pub fn domain_for(
     domain_from(found, fields, ident)
 }
 
+/// A pointer to a domain (6.4.4).
 pub fn pointer_to(state: &mut TypeState, domain: (Option<Domain>, u8)) -> Result<Typed, NoMemory>
     ensures { IfOk result (λ r. spec.judgement state.new r.typing r.kind ≡ spec.pointer_type state.old domain) }
 {
@@ -477,6 +481,7 @@ fn is_known(typing: Typing) -> bool
     }
 }
 
+/// Adds fields of one type to a record (6.4.3.3).
 pub fn judged_field(
     alloc: Global,
     state: &TypeState,
@@ -527,6 +532,7 @@ pub fn idents_of(
     Ok(all)
 }
 
+/// The record of these fields.
 pub fn record_of(state: &mut TypeState, packed: bool, walk: RecordWalk) -> Result<Typed, NoMemory>
     ensures { IfOk result (λ r. spec.judgement state.new r.typing r.kind ≡ spec.record_of packed (spec.fields_of state.old walk)) }
 {
