@@ -69,32 +69,32 @@ routine_reading ts =
 
 -- ---- what is read of tokens that a text has is formed
 
-said-formed : {A B : Type 0} {Q : B → Type 0} (g : ℕ → Form A) (n : ℕ) (make : A → B) (ts : Toks)
+said-formed : {A B : Type 0} (Q : B → Type 0) (g : ℕ → Form A) (n : ℕ) (make : A → B) (ts : Toks)
     → ((a : A) (w : Bool) → (g n).full a w ts → Q (make a)) → (result : Result B ParseFault) → Says g n make ts result
     → IfOk result Q
-said-formed {Q = Q} g n make ts formed (Ok b) s = subst Q (sym s.2.2.1) (formed s.0 s.1 s.2.0)
-said-formed g n make ts formed (Err e) s = tt
+said-formed Q g n make ts formed (Ok b) s = subst Q (sym s.3) (formed s.0 s.1 s.2)
+said-formed Q g n make ts formed (Err e) s = tt
 
 pub stmt_formed : (ts : Toks) (result : Result Stmt ParseFault) → AllByRecursion HasLexeme ts
     → IsReading stmt_at LEVELS named_stmt ts result → IfOk result (λ s. is_formed_stmt s ≡ true)
 stmt_formed ts result each is =
-    said-formed stmt_at LEVELS named_stmt ts (λ s w h. numbered-stmt s 1 ∙ stmt-read s w ts h each) result is.says
+    said-formed (λ s. is_formed_stmt s ≡ true) stmt_at LEVELS named_stmt ts (λ s w h. numbered-stmt s 1 ∙ stmt-read s w ts h each) result is.says
 
 pub decl_formed : (ts : Toks) (result : Result Decl ParseFault) → AllByRecursion HasLexeme ts
     → IsReading decl_at LEVELS named_decl ts result → IfOk result (λ d. is_formed_decl d ≡ true)
 decl_formed ts result each is =
-    said-formed decl_at LEVELS named_decl ts (λ d w h. decl-read d w ts h each) result is.says
+    said-formed (λ d. is_formed_decl d ≡ true) decl_at LEVELS named_decl ts (λ d w h. decl-read d w ts h each) result is.says
 
 pub heading_formed : (ts : Toks) (result : Result Heading ParseFault) → AllByRecursion HasLexeme ts
     → IsReading heading_at LEVELS (λ h. h) ts result → IfOk result (λ h. heading_is_formed h ≡ true)
 unfolding heading_at
 heading_formed ts result each is =
-    said-formed heading_at LEVELS (λ h. h) ts (λ h w k. heading-read h w ts k each) result is.says
+    said-formed (λ h. heading_is_formed h ≡ true) heading_at LEVELS (λ h. h) ts (λ h w k. heading-read h w ts k each) result is.says
 
 pub routine_formed : (ts : Toks) (result : Result Routine ParseFault) → AllByRecursion HasLexeme ts
     → IsReading routine_at LEVELS named_routine ts result → IfOk result (λ r. is_formed_routine r ≡ true)
 routine_formed ts result each is =
-    said-formed routine_at LEVELS named_routine ts (λ r w h. numbered-routine r 1 ∙ routine-read r w ts h each) result is.says
+    said-formed (λ r. is_formed_routine r ≡ true) routine_at LEVELS named_routine ts (λ r w h. numbered-routine r 1 ∙ routine-read r w ts h each) result is.says
 
 -- a program, before its items have names
 pub program_formed : (ts : Toks) (r : Result Tree ParseFault) → AllByRecursion HasLexeme ts
@@ -103,7 +103,7 @@ program_formed ts r each e =
     let is =
     is_reading (program_in body_in) program_at (λ d. (program_laws body_in (body_laws block_ends) body_slow body_steady d).0) (λ d. (program_laws body_in (body_laws block_ends) body_slow body_steady d).1)
     (program_steady body_in (body_laws block_ends) body_slow body_steady) (flags _ refl refl) (λ p. p) (LEVELS - 1) ts r r e (same_made r) in
-    said-formed program_at (LEVELS - 1) (λ p. p) ts (λ p w h. program-read p w ts h each) r is.says
+    said-formed (λ p. is_formed p ≡ true) program_at (LEVELS - 1) (λ p. p) ts (λ p w h. program-read p w ts h each) r is.says
 
 -- and so it is with their names
 pub named_formed : (p q : Tree) → q ≡ numbered_program p → is_formed p ≡ true → is_formed q ≡ true

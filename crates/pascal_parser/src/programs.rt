@@ -76,7 +76,7 @@ fn name_program(alloc: Global, read: Result<Boxed<Tree>, ParseFault>) -> Result<
 pub fn parse_program(alloc: Global, tokens: &[Token]) -> Result<Program, ParseFault>
     requires few { length tokens.now ≤ 65536 }
     requires lexemes { AllByRecursion HasLexeme (kinds tokens.now) }
-    ensures { IsReading program_at (LEVELS - 1) numbered_program (kinds tokens.now) result }
+    ensures reading { IsReading program_at (LEVELS - 1) numbered_program (kinds tokens.now) result }
 {
     name_program(alloc, read_program(alloc, tokens))
 }

@@ -13,7 +13,8 @@ use Rattle.pascal_print.proofs.Column.{lists_names}
 use Rattle.pascal_print.proofs.OneText.{program-sources}
 use Rattle.pascal_print.proofs.ReadsBack.{reads_back}
 
-abbrev Printed : Bool → Tree → Result (List ℕ) NoMemory → Type 0
+-- a listing of the tree, if memory sufficed
+abbrev pub Printed : Bool → Tree → Result (List ℕ) NoMemory → Type 0
 Printed names p r = IfOk r (λ text. text ≡ listing names p)
 
 pub printed-back : (names : Bool) (p : Tree) → IsProgram p → (r : Result (List ℕ) NoMemory) → Printed names p r

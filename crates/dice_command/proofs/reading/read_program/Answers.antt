@@ -16,5 +16,5 @@ returns c = record {
   short = not-long _ (λ long. ok-err (c.in_ok-tokens.ensures.long.1 long));
   tokens = kinds c.deref.result.now;
   lexes = subst (Lexes c.args.text.now) (sym (ap kinds c.deref.ensures.value)) c.in_ok-tokens.ensures.tokens;
-  said = c.in_ok-program.ensures.says;
+  said = c.in_ok-program.ensures.reading.says;
 }
