@@ -15,13 +15,12 @@ use Rattle.dice_session.specs.SessionOf.{IsSessionOf}
 use Rattle.dice_session.specs.Simulates.{Simulates}
 use Rattle.dice_program.specs.declared.serve.Fault.{Fault}
 use Rattle.dice_program.specs.declared.serve.Fault.TheVariants.{ReadFault, WriteFault, NoMemory}
-use Rattle.dice_program.specs.Ends.{Input, Output}
 use Rattle.dice_program.specs.Entries.{Behind, line_entries, line_position, entries_from, position_after, whole_entries, position_of, open_entries, script_entries, AreCommandsOf}
 use Rattle.dice_program.specs.Kept.{HasText}
 use Rattle.dice_program.specs.Script.{ended_lines, lines_in, acted_within, acted, IsTooLong}
 use Rattle.dice_program.specs.declared.limits.TheConstants.{MAX_BYTES, MAX_LINES}
 use Rattle.dice_program.specs.Taking.{ScriptPart, TakesAll, Begins}
-use Rattle.dice_program.specs.Turns.{AnsweredAll, CutIn, AnswersAll, Unanswered, TakesOneLine, IsMore}
+use Rattle.dice_program.specs.Turns.{AnsweredAll, CutIn, AnswersAll, Unanswered, IsMore}
 use Rattle.dice_program.specs.Top.{IsDone, IsTooMany, IsBroken, IsCut, IsShort, Serves}
 use Rattle.dice_program.proofs.Pieces.{ended-joined, ended-plain, ended-all, last-all, lines-joined, lines-plain, acted-last, acted-past, acted-none, whole-more, last-more, few-plain, few-whole, few-past}
 use Rattle.dice_program.proofs.Commands.{after-append, replies-append, commands-append, commands-one, after-push, entries-append, position-append, quit-entries}

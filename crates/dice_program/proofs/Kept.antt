@@ -10,7 +10,9 @@ use Rattle.dice_base.specs.Tokens.{Toks}
 use Rattle.pascal_scanner.specs.Unread.{Reports}
 use Rattle.pascal_scanner.specs.declared.fault.ScanFault.{ScanFault}
 use Rattle.token_reader.specs.Answers.{Says}
-use Rattle.pascal_tree.specs.declared.program.Tree.{Tree}
+use Rattle.pascal_tree.specs.declared.levels.TheConstants.{LEVELS}
+use Rattle.pascal_tree.specs.Naming.{numbered_program}
+use Rattle.pascal_tree.specs.Programs.{program_at}
 use Rattle.pdp11_machine.specs.State.{MachineState}
 use Rattle.dice_command.specs.declared.command.CommandFault.{CommandFault}
 use Rattle.dice_command.specs.declared.command.CommandFault.TheVariants.{LineTooLong, NotACommand, BadNumber, Scan, Parse}
@@ -25,9 +27,9 @@ use Rattle.dice_session.specs.declared.session.Session.{Session}
 use Rattle.dice_session.specs.World.{World}
 use Rattle.dice_session.specs.SessionOf.{IsSessionOf}
 use Rattle.dice_program.specs.declared.serve.Fault.{Fault}
-use Rattle.dice_program.specs.Entries.{Entry, Position, Between, Inside, Behind, end_line, command_entries, command_position, line_entries, line_position}
+use Rattle.dice_program.specs.Entries.{Position, Between, Inside, Behind, end_line, command_entries, command_position, line_entries, line_position, position_after}
 use Rattle.dice_program.specs.Kept.{kept_text, HasFront, HasText, IsReadAs}
-use Rattle.dice_program.specs.Turns.{Answers, AnsweredAll, AnswersAll, LeavesAt, IsQuit}
+use Rattle.dice_program.specs.Turns.{Answers, AnsweredAll, AnswersAll, LeavesAt, IsQuit, Around, ActsOn}
 use Rattle.dice_program.proofs.Turns.{one-answered, none-answered, one-fault}
 
 -- ---- fronts
@@ -168,7 +170,7 @@ pub text-read : (begin whole kept : List ℕ) → HasFront begin whole (Some kep
 text-read begin whole kept h = λ c reads.
     let loads = subst (λ a. IsAskedFor a kept c) load-line reads in
     subst (λ a. IsAskedFor a whole c) (sym (load-is (asked_of begin) h.takes))
-    (loads.0, same-says _ _ _ whole kept loads.0 (some-is kept (take kept_text whole) h.front) loads.1, loads.2)
+    (loads.0, same-says program_at (LEVELS - 1) numbered_program whole kept loads.0 (some-is kept (take kept_text whole) h.front) loads.1, loads.2)
 
 -- ---- `quit`
 
@@ -202,12 +204,12 @@ at-quit true false e = absurd cc
 at-quit false true e = absurd cc
 
 -- a command line that takes no text
-pub command-leaves : (r : Result Bool Fault) (w : World) (l : List ℕ) (s : Session) (m : MachineState) (h k : Option (List ℕ)) → takes_text l ≡ false
-    → Answers r w (record { line = l; text = [] }) s m h k → AnswersAll r w (command_entries l) s m h k × LeavesAt r (command_position l) None
-command-leaves r w l s m h k none a =
+pub command-leaves : (r : Result Bool Fault) (w : World) (l : List ℕ) (text : Option (List ℕ)) (s : Session) (m : MachineState) (h k : Option (List ℕ)) → text ≡ None → takes_text l ≡ false
+    → Answers r w (record { line = l; text = [] }) s m h k → AnswersAll r w (command_entries l) s m h k × LeavesAt r (command_position l) text
+command-leaves r w l text s m h k closed none a =
     let entries : command_entries l ≡ record { line = l; text = [] } ∷ [] = ap (λ b. if b then [] else (record { line = l; text = [] } ∷ [])) none in
     let at : command_position l ≡ (if ends_script l then Behind else Between) = ap (λ b. if b then Inside l [] else if ends_script l then Behind else Between) none in
-    go r entries at a
+    subst (λ t. AnswersAll r w (command_entries l) s m h k × LeavesAt r (command_position l) t) (sym closed) (go r entries at a)
   where
     go : (r : Result Bool Fault) → command_entries l ≡ record { line = l; text = [] } ∷ [] → command_position l ≡ (if ends_script l then Behind else Between)
         → Answers r w (record { line = l; text = [] }) s m h k → AnswersAll r w (command_entries l) s m h k × LeavesAt r (command_position l) None
@@ -215,20 +217,20 @@ command-leaves r w l s m h k none a =
     go (Err f) entries at a = (one-fault Bool f w (record { line = l; text = [] }) (command_entries l) s m h k entries a, tt)
 
 -- one that takes a text
-pub load-leaves : (w : World) (l : List ℕ) (s : Session) (m : MachineState) (h : Option (List ℕ)) → takes_text l ≡ true → IsSessionOf w s m
-    → AnsweredAll w (command_entries l) s m h h × (HasText (command_position l) (Some []) × IsQuit false (command_position l))
-load-leaves w l s m h takes lives =
+pub load-leaves : (w : World) (l kept : List ℕ) (s : Session) (m : MachineState) (h : Option (List ℕ)) → kept ≡ [] → takes_text l ≡ true → IsSessionOf w s m
+    → AnsweredAll w (command_entries l) s m h h × (HasText (command_position l) (Some kept) × IsQuit false (command_position l))
+load-leaves w l kept s m h empty takes lives =
     let entries : command_entries l ≡ [] = ap (λ b. if b then [] else (record { line = l; text = [] } ∷ [])) takes in
     let at : command_position l ≡ Inside l [] = ap (λ b. if b then Inside l [] else if ends_script l then Behind else Between) takes in
-    (none-answered w (command_entries l) s m h entries lives, subst (λ p. HasText p (Some []) × IsQuit false p) (sym at) (record { takes = takes; front = refl }, λ x. absurd cc))
+    (none-answered w (command_entries l) s m h entries lives, subst (λ p. HasText p (Some kept) × IsQuit false p) (sym at) (record { takes = takes; front = ap Some empty }, λ x. absurd cc))
 
 -- the line that ends a text
-pub end-leaves : (r : Result Bool Fault) (w : World) (begin whole l : List ℕ) (s : Session) (m : MachineState) (h k : Option (List ℕ)) → takes_text begin ≡ true → bytes_eq l end_line ≡ true
-    → Answers r w (record { line = begin; text = whole }) s m h k → AnswersAll r w (line_entries (Inside begin whole) l) s m h k × LeavesAt r (line_position (Inside begin whole) l) None
-end-leaves r w begin whole l s m h k takes ends a =
+pub end-leaves : (r : Result Bool Fault) (w : World) (begin whole l : List ℕ) (text : Option (List ℕ)) (s : Session) (m : MachineState) (h k : Option (List ℕ)) → text ≡ None → takes_text begin ≡ true → bytes_eq l end_line ≡ true
+    → Answers r w (record { line = begin; text = whole }) s m h k → AnswersAll r w (line_entries (Inside begin whole) l) s m h k × LeavesAt r (line_position (Inside begin whole) l) text
+end-leaves r w begin whole l text s m h k closed takes ends a =
     let entries : line_entries (Inside begin whole) l ≡ record { line = begin; text = whole } ∷ [] = ap (λ b. if b then (record { line = begin; text = whole } ∷ []) else []) ends in
     let at : line_position (Inside begin whole) l ≡ Between = ap (λ b. if b then Between else Inside begin (whole ++ (l ++ 10 ∷ []))) ends in
-    go r entries at a
+    subst (λ t. AnswersAll r w (line_entries (Inside begin whole) l) s m h k × LeavesAt r (line_position (Inside begin whole) l) t) (sym closed) (go r entries at a)
   where
     go : (r : Result Bool Fault) → line_entries (Inside begin whole) l ≡ record { line = begin; text = whole } ∷ [] → line_position (Inside begin whole) l ≡ Between
         → Answers r w (record { line = begin; text = whole }) s m h k → AnswersAll r w (line_entries (Inside begin whole) l) s m h k × LeavesAt r (line_position (Inside begin whole) l) None
@@ -245,8 +247,7 @@ pub more-leaves : (w : World) (begin whole l given kept longer : List ℕ) (s : 
 more-leaves w begin whole l given kept longer s m h front ends same is lives =
     let entries : line_entries (Inside begin whole) l ≡ [] = ap (λ b. if b then (record { line = begin; text = whole } ∷ []) else []) ends in
     let at : line_position (Inside begin whole) l ≡ Inside begin (whole ++ (l ++ 10 ∷ [])) = ap (λ b. if b then Between else Inside begin (whole ++ (l ++ 10 ∷ []))) ends in
-    let e : kept ≡ take kept_text whole = some-is kept (take kept_text whole) front.front in
-    (
+    let e : kept ≡ take kept_text whole = some-is kept (take kept_text whole) front.front in (
       none-answered w (line_entries (Inside begin whole) l) s m h entries lives,
       subst (λ p. HasText p (Some longer) × IsQuit false p) (sym at) (record { takes = front.takes; front = ap Some (is ∙ longer-kept kept whole given l e same) }, λ x. absurd cc),
     )
@@ -255,10 +256,16 @@ more-leaves w begin whole l given kept longer s m h front ends same is lives =
 pub front-short : (begin whole kept : List ℕ) → HasFront begin whole (Some kept) → length kept ≤ kept_text
 front-short begin whole kept h = omega (arith, ap length (some-is kept (take kept_text whole) h.front), length-take kept_text whole)
 
--- a text is open, or none is
-pub open-inside : (at : Position) (kept : List ℕ) → HasText at (Some kept) → (begin : List ℕ) × (whole : List ℕ) × (at ≡ Inside begin whole) × HasFront begin whole (Some kept)
+-- a text is open
+pub record IsInside (at : Position) (kept : List ℕ) : Type 0 where
+  pub line : List ℕ
+  pub text : List ℕ
+  pub is : at ≡ Inside line text
+  pub front : HasFront line text (Some kept)
+
+pub open-inside : (at : Position) (kept : List ℕ) → HasText at (Some kept) → IsInside at kept
 open-inside Between kept h = absurd cc
-open-inside (Inside begin whole) kept h = (begin, whole, refl, h)
+open-inside (Inside line text) kept h = record { line = line; text = text; is = refl; front = h }
 open-inside Behind kept h = absurd cc
 
 pub closed-between : (at : Position) → HasText at None → (at ≡ Behind → ⊥) → at ≡ Between
@@ -268,3 +275,22 @@ closed-between (Inside begin whole) h going = absurd (none-some (take kept_text 
     none-some : (x : List ℕ) → None ≡ Some x → ⊥
     none-some x e = absurd cc
 closed-between Behind h going = absurd (going refl)
+
+-- the same at the place where the script is
+pub at-place : (r : Result Bool Fault) (w : World) (at there : Position) (l : List ℕ) (text : Option (List ℕ)) (s : Session) (m : MachineState) (h k : Option (List ℕ)) → at ≡ there
+    → AnswersAll r w (line_entries there l) s m h k × LeavesAt r (line_position there l) text → AnswersAll r w (line_entries at l) s m h k × LeavesAt r (line_position at l) text
+at-place r w at there l text s m h k is a = subst (λ p. AnswersAll r w (line_entries p l) s m h k × LeavesAt r (line_position p l) text) (sym is) a
+
+pub first-of : {A B : Type 0} → A × B → A
+first-of p = p.0
+
+pub second-of : {A B : Type 0} → A × B → B
+second-of p = p.1
+
+-- a line was acted on
+pub acts-on : (a : Around) (l : List ℕ) (quit b : Bool) → quit ≡ b → AnsweredAll a.world (line_entries a.at l) a.session a.machine a.held a.held_then → LeavesAt (Ok quit) (line_position a.at l) a.text → ActsOn l b a
+acts-on a l quit b is p q = record { answered = p; text = q.0; ended = subst (λ x. IsQuit x (line_position a.at l)) is q.1 }
+
+-- a last line was
+pub last-text : (quit : Bool) (at : Position) (l : List ℕ) (ls : List (List ℕ)) (text : Option (List ℕ)) → l ∷ [] ≡ ls → LeavesAt (Ok quit) (line_position at l) text → HasText (position_after at ls) text
+last-text quit at l ls text some q = subst (λ xs. HasText (position_after at xs) text) some q.0

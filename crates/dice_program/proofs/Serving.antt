@@ -15,7 +15,7 @@ use Rattle.dice_session.specs.World.{empty_world, replies_from, world_after}
 use Rattle.dice_session.specs.SessionOf.{IsSessionOf}
 use Rattle.dice_program.specs.Script.{acted_within, acted}
 use Rattle.dice_program.specs.declared.limits.TheConstants.{MAX_BYTES, MAX_LINES}
-use Rattle.dice_program.specs.Entries.{Position, Between, Behind, line_entries, line_position, whole_entries, position_of, HasQuit, AreCommandsOf}
+use Rattle.dice_program.specs.Entries.{Between, Behind, line_entries, line_position, whole_entries, position_of, HasQuit, AreCommandsOf}
 use Rattle.dice_program.specs.Kept.{HasText}
 use Rattle.dice_program.specs.Turns.{AnsweredAll}
 use Rattle.dice_program.specs.Taking.{IsScript, ScriptPart, TakesOnly}

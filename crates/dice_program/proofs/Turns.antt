@@ -1,6 +1,5 @@
 -- From an answer to a turn.
-use Rattle.std.proofs.Common.{◌≡◌, ◌==◌, ◌<◌, ◌≤◌, ℕ, ◌+◌, Bool, true, false, List, [], ◌∷◌, ◌++◌, None, Some, Ok, Err, Result, length, take, refl, sym, ap, subst, ◌∙◌, append-nil, arith, inl, inr}
-use Rattle.std.specs.Prelude.{OnOk}
+use Rattle.std.proofs.Common.{◌≡◌, ◌==◌, ◌<◌, ℕ, ◌+◌, Bool, true, false, List, [], ◌∷◌, ◌++◌, None, Some, Err, Result, length, take, refl, sym, ap, subst, ◌∙◌, append-nil, arith, inl, inr}
 use Rattle.std.proofs.lemmas.Bool.{eqb-true}
 use Rattle.std.proofs.lemmas.List.{take-take, length-take}
 use Rattle.std.specs.declared.option.Option.{Option}
@@ -25,14 +24,13 @@ use Rattle.dice_program.specs.declared.serve.Fault.{Fault}
 use Rattle.dice_program.specs.declared.serve.Fault.TheVariants.{ReadFault, WriteFault, NoMemory}
 use Rattle.dice_program.specs.Turns.{Answered, CutShort, Answers, CutIn, AnsweredAll, AnswersAll, Around, Turns, IsMore, IsNoMore, fault_of}
 use Rattle.dice_program.proofs.Pieces.{few-plain, few-whole}
-use Rattle.dice_program.proofs.Commands.{entries-one}
 
 pub answered : (w : World) (e : Entry) (line text before after written : List ℕ) (n : MachineState) (s : Session) (m : MachineState) (h k : Option (List ℕ)) (c : Command)
     → IsReadAs e line text → IsCommandOf line text c → Became (reply_of w c) before after n s m → before ≡ [] → written ≡ after
     → Appends h k written → Answered w e s m h k
-answered w e line text before after written n s m h k c as reads r empty same wrote = record {
+answered w e line text before after written n s m h k c tells reads r empty same wrote = record {
   command = c;
-  reads = as c reads;
+  reads = tells c reads;
   wrote = subst (Appends h k) (same ∙ r.told ∙ ap (λ b. b ++ (reply_of w c).text) empty) wrote;
   lives = r.of_world;
 }
@@ -40,9 +38,9 @@ answered w e line text before after written n s m h k c as reads r empty same wr
 pub cut_short : (w : World) (e : Entry) (line text before after written : List ℕ) (n : MachineState) (s : Session) (m : MachineState) (h k : Option (List ℕ)) (c : Command)
     → IsReadAs e line text → IsCommandOf line text c → Became (reply_of w c) before after n s m → before ≡ [] → written ≡ after
     → WritesPart h k written → CutShort w e s m h k
-cut_short w e line text before after written n s m h k c as reads r empty same wrote = record {
+cut_short w e line text before after written n s m h k c tells reads r empty same wrote = record {
   command = c;
-  reads = as c reads;
+  reads = tells c reads;
   wrote = subst (WritesPart h k) (same ∙ r.told ∙ ap (λ b. b ++ (reply_of w c).text) empty) wrote;
   lives = r.of_world;
 }
@@ -55,6 +53,9 @@ one-answered w es e s m h k is a = subst (λ xs. AnsweredAll w xs s m h k) (sym 
   wrote = subst (Appends h k) (sym (append-nil (reply_of w a.command).text)) a.wrote;
   lives = a.lives;
 })
+
+pub same-entries : (w : World) (es fs : List Entry) (s : Session) (m : MachineState) (h k : Option (List ℕ)) → es ≡ fs → AnsweredAll w es s m h k → AnsweredAll w fs s m h k
+same-entries w es fs s m h k is a = subst (λ xs. AnsweredAll w xs s m h k) is a
 
 pub none-answered : (w : World) (es : List Entry) (s : Session) (m : MachineState) (h : Option (List ℕ)) → es ≡ [] → IsSessionOf w s m → AnsweredAll w es s m h h
 none-answered w es s m h is lives = subst (λ xs. AnsweredAll w xs s m h h) (sym is) (record {

@@ -1,5 +1,5 @@
 -- From one turn to the whole run.
-use Rattle.std.proofs.Common.{◌≡◌, ◌≤◌, ℕ, ◌+◌, ◌-◌, List, [], Err, length, map, refl, sym, ap, subst, ◌∙◌, arith, inl, inr}
+use Rattle.std.proofs.Common.{◌≡◌, ◌≤◌, ℕ, ◌+◌, ◌-◌, List, [], Err, length, map, sym, ap, subst, arith, inl, inr}
 use Rattle.std.specs.declared.option.Option.{Option}
 use Rattle.dice_base.specs.Lines.{some_line}
 use Rattle.script_lines.specs.Front.{strip}
@@ -15,7 +15,7 @@ use Rattle.dice_program.specs.declared.serve.Fault.TheVariants.{ReadFault, Write
 use Rattle.dice_program.specs.declared.limits.TheConstants.{MAX_LINES}
 use Rattle.dice_program.specs.Entries.{entries_from, position_after, position_of}
 use Rattle.dice_program.specs.Kept.{HasText}
-use Rattle.dice_program.specs.Turns.{Around, AnsweredAll, Unanswered, ActsOnLast, Turns, Finals, IsNoMore, fault_of}
+use Rattle.dice_program.specs.Turns.{Around, Unanswered, ActsOnLast, Turns, Finals, IsNoMore, fault_of}
 use Rattle.dice_program.specs.Top.{Serves}
 use Rattle.dice_program.proofs.Pieces.{some-few, few-plain}
 use Rattle.dice_program.proofs.Turns.{none-answered, keeps-refl}

@@ -1,6 +1,5 @@
 -- What a run of the program reads, writes and leaves, status by status.
 use Rattle.std.specs.Prelude.{◌≡◌, ℕ, ◌+◌, ◌<◌, ◌≤◌, ◌⊎◌, List, [], ◌∷◌, ◌++◌, length, take, codes, Result, Ok, Err}
-use Rattle.std.specs.declared.option.Option.{Option}
 use Rattle.std.specs.Io.KnownBytes.{Appends, Consumes}
 use Rattle.dice_base.specs.Causes.{Rose}
 use Rattle.dice_base.specs.Part.{WritesPart}

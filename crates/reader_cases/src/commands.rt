@@ -101,11 +101,7 @@ fn texts_are_refused(rt: HostRuntime) -> Result<(), Fail> {
             b"program p begin end.".as_slice(),
             CommandFault::Parse(ParseFault::Unexpected(2)),
         ),
-        (
-            b"load",
-            b"",
-            CommandFault::Parse(ParseFault::EndsEarly),
-        ),
+        (b"load", b"", CommandFault::Parse(ParseFault::EndsEarly)),
         (
             b"load",
             b"program p; begin p(32768) end.",

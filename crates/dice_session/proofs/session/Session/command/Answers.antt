@@ -1,6 +1,4 @@
-use Rattle.std.proofs.Common.{ap, ◌∙◌, ◌++◌}
 use Rattle.std.specs.Prelude.{codes}
-use Rattle.dice_session.specs.World.{reply_line}
 use Rattle.dice_session.proofs.Sessions.{on_ok, carried-out, nothing-became, refused-became, reply-blank, reply-load, reply-list, reply-replace, reply-apply, reply-run, reply-quit, reply-unbuilt, reply-bad}
 use Rattle.dice_session.proofs.session.Session.command.Goals as goal
 
