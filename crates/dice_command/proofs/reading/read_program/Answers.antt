@@ -6,8 +6,8 @@ use Rattle.expression_laws.proofs.Words.{lexes_each}
 use Rattle.dice_command.proofs.Readings.{not-long, ok-err}
 use Rattle.dice_command.proofs.reading.read_program.Goals as goal
 
-pub parse_program-requires-lexemes : goal.parse_program-requires-lexemes
-parse_program-requires-lexemes c =
+pub parse_program-requires-clause-lexemes : goal.parse_program-requires-clause-lexemes
+parse_program-requires-clause-lexemes c =
     lexes_each [] c.args.text.now (kinds c.deref.result.now)
     (subst (Lexes c.args.text.now) (sym (ap kinds c.deref.ensures.value)) c.in_ok-tokens.ensures.tokens)
 

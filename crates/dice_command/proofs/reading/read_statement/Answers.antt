@@ -6,8 +6,8 @@ use Rattle.expression_laws.proofs.Words.{lexes_each}
 use Rattle.dice_command.proofs.Readings.{not-long, ok-err}
 use Rattle.dice_command.proofs.reading.read_statement.Goals as goal
 
-pub parse_statement-requires-lexemes : goal.parse_statement-requires-lexemes
-parse_statement-requires-lexemes c =
+pub parse_statement-requires-clause-lexemes : goal.parse_statement-requires-clause-lexemes
+parse_statement-requires-clause-lexemes c =
     lexes_each [] c.args.text.now (kinds c.deref.result.now)
     (subst (Lexes c.args.text.now) (sym (ap kinds c.deref.ensures.value)) c.in_ok-tokens.ensures.tokens)
 
