@@ -5,6 +5,7 @@ mod Constants
 mod Control
 mod Forward
 mod Labels
+mod Limits
 mod Parameters
 mod Sizes
 mod Twice
