@@ -1,0 +1,105 @@
+-- Steps inside an expression keep a state in order.
+use Rattle.std.proofs.Common.{◌≡◌, ℕ, List, [], ◌∷◌, ◌++◌, length, Some, None, refl, sym, ap, ◌∙◌, subst, arith, inl, inr}
+use Rattle.std.specs.Prelude.{◌⊎◌}
+use Rattle.core_tree.specs.declared.op.Op.{Op}
+use Rattle.core_tree.specs.Plain.{Expr, Operation, Exprs, NoMore, And, part_at}
+use Rattle.plain_pascal.specs.Program.{Kind, Row, Program, row_of}
+use Rattle.plain_pascal.specs.State.{Value, OfStatement, OfExpr, PendingFrame, Activation, Data, Control}
+use Rattle.plain_pascal.specs.Integers.{Gives}
+use Rattle.plain_pascal.specs.Operations.{newest_holds, value_of}
+use Rattle.plain_pascal.specs.Step.{given, frame_of, parts_of}
+use Rattle.plain_pascal.specs.Typed.{AreExprs, each, IsOp}
+use Rattle.plain_pascal.specs.Valid.{IsOf, AreOf, AreFrames, AtStatement, NewestStands, IsData, IsProgram}
+use Rattle.plain_pascal.proofs.Sound.{GivesOf}
+use Rattle.plain_pascal.proofs.Places.{Scoped}
+use Rattle.plain_pascal.proofs.Values.{Sees}
+use Rattle.plain_pascal.proofs.Evaluates.{IsPlain, value_sound}
+use Rattle.plain_pascal.proofs.Kept.{as_many, part_keeps, value_keeps}
+use Rattle.plain_pascal.proofs.Scopes.{standing_all, all_scoped}
+
+-- there are as many parts as kinds
+no_part : (P : Program) (row : Row) (done : List Kind) (ps : Exprs) → AreExprs P row.routine row.around ps (done ++ []) → part_at ps (length done) ≡ None
+no_part P row [] NoMore h = refl
+no_part P row [] (And e es) h = elim h [ ]
+no_part P row (k ∷ done) NoMore h = refl
+no_part P row (k ∷ done) (And e es) (each a as' b bs x hs) = no_part P row done es hs
+
+pub some_part : (P : Program) (row : Row) (done : List Kind) (k : Kind) (ks : List Kind) (ps : Exprs) → AreExprs P row.routine row.around ps (done ++ (k ∷ ks)) → (e : Expr) × (part_at ps (length done) ≡ Some e)
+some_part P row [] k ks NoMore h = elim h [ ]
+some_part P row [] k ks (And e es) h = (e, refl)
+some_part P row (j ∷ done) k ks NoMore h = elim h [ ]
+some_part P row (j ∷ done) k ks (And e es) (each a as' b bs x hs) = some_part P row done k ks es hs
+
+module _ (P : Program) (program : IsProgram P) (n : ℕ) (cs : List Control) (d : Data) (good : IsData d) (a : Activation) (xs : List Activation) (same : d.activations ≡ a ∷ xs) where
+  abbrev acts : List Activation
+  acts = a ∷ xs
+
+  abbrev newest : ℕ
+  newest = length xs
+
+  abbrev pub Stands : List PendingFrame → Type 0
+  Stands fs = NewestStands P acts (record { statement = n; frames = fs } ∷ cs) acts
+
+  -- what the statement of the newest activation sees
+  sees_at : (row : Row) → row.routine ≡ a.routine → (found : List Kind) → AreOf acts newest (row.around ++ found) a.holds → (fs : List PendingFrame) → Stands fs → Sees P d newest row
+  sees_at row inside found held fs h = record {
+    data_good = good;
+    scoped = subst (λ ys. Scoped P ys newest row.routine) (sym same) (subst (λ r. Scoped P acts newest r) (sym inside) (all_scoped P program.no_zero a xs (standing_all P acts (record { statement = n; frames = fs } ∷ cs) acts h)));
+    found = found;
+    held = subst (λ ys. AreOf ys newest (row.around ++ found) (newest_holds ys)) (sym same) held;
+  }
+
+  -- frames are put in the place of others
+  in_place : (f : PendingFrame) (fs gs : List PendingFrame) → Stands (f ∷ fs)
+      → ((row : Row) (rest : List Kind) → row_of P n ≡ Some row → Sees P d newest row → AreFrames P acts newest row rest (f ∷ fs) → (more : List Kind) × AreFrames P acts newest row more gs)
+      → Stands gs
+  in_place f fs gs h on = (h.0, by h.1, h.2)
+    where
+      framed : (at : AtStatement P acts newest a (record { statement = n; frames = f ∷ fs })) → (f ∷ fs ≡ []) ⊎ ((rest : List Kind) × AreFrames P acts newest at.row rest (f ∷ fs)) → (more : List Kind) × AreFrames P acts newest at.row more gs
+      framed at (inl e) = absurd (grind (arith, e))
+      framed at (inr (rest, fr)) = on at.row rest at.found (sees_at at.row at.inside at.held.0 at.held.2 (f ∷ fs) h) fr
+
+      by : AtStatement P acts newest a (record { statement = n; frames = f ∷ fs }) ⊎ ((n ≡ a.routine) × (f ∷ fs ≡ []) × (a.holds ≡ []))
+          → AtStatement P acts newest a (record { statement = n; frames = gs }) ⊎ ((n ≡ a.routine) × (gs ≡ []) × (a.holds ≡ []))
+      by (inl at) = inl (record { row = at.row; found = at.found; inside = at.inside; held = at.held; frames = inr (framed at at.frames) })
+      by (inr e) = absurd (let k : f ∷ fs ≡ [] = e.1 in grind (arith, k))
+
+  -- the next part gets a frame
+  pub part_stands : (f : PendingFrame) (fs : List PendingFrame) (e : Expr) → part_at (parts_of f.node) (length f.kept) ≡ Some e → Stands (f ∷ fs) → Stands (frame_of (OfExpr e) ∷ (f ∷ fs))
+  part_stands f fs e found h = in_place f fs (frame_of (OfExpr e) ∷ (f ∷ fs)) h (λ row rest r sees fr. by row rest fs fr)
+    where
+      full : (row : Row) (done : List Kind) → AreExprs P row.routine row.around (parts_of f.node) (done ++ []) → AreOf acts newest done f.kept → None ≡ Some e
+      full row done hs ho = sym (no_part P row done (parts_of f.node) hs) ∙ ap (part_at (parts_of f.node)) (sym (as_many P acts newest row done f.kept ho)) ∙ found
+
+      by : (row : Row) (rest : List Kind) (gs : List PendingFrame) → AreFrames P acts newest row rest (f ∷ gs) → (more : List Kind) × AreFrames P acts newest row more (frame_of (OfExpr e) ∷ (f ∷ gs))
+      by row (k ∷ ks) gs fr = part_keeps P acts newest row k ks f gs e found fr
+      by row [] [] fr = absurd (let clash : None ≡ Some e = full row fr.1.0 fr.1.1 fr.1.2 in grind (arith, clash))
+      by row [] (g ∷ gs) fr = absurd (let clash : None ≡ Some e = full row fr.5.0 fr.5.1 fr.5.2 in grind (arith, clash))
+
+  nothing_more : (done : List Kind) → done ++ [] ≡ done
+  nothing_more [] = refl
+  nothing_more (k ∷ done) = ap (λ x. k ∷ x) (nothing_more done)
+
+  -- an operation without effect has its value
+  pub value_stands : (o : Op) (ps : Exprs) (kept : List Value) (fs : List PendingFrame) (v : Value) → IsPlain o → part_at ps (length kept) ≡ None → value_of o kept d ≡ Gives v
+      → Stands (record { node = OfExpr (Operation o ps); kept = kept } ∷ fs) → Stands (given v fs)
+  value_stands o ps kept fs v plain full value h = in_place f fs (given v fs) h (λ row rest r sees fr. by row rest fs sees fr)
+    where
+      f : PendingFrame
+      f = record { node = OfExpr (Operation o ps); kept = kept }
+
+      is_of : (row : Row) (k : Kind) (done : List Kind) → Sees P d newest row → IsOp P row.routine row.around o (done ++ []) k → AreOf acts newest done kept → IsOf acts newest k v
+      is_of row k done sees t ho =
+          subst (λ ys. IsOf ys newest k v) same
+          (subst (GivesOf d.activations newest k) value
+          (value_sound P d newest row sees o done k kept plain (subst (λ x. IsOp P row.routine row.around o x k) (nothing_more done) t) (subst (λ ys. AreOf ys newest done kept) (sym same) ho)))
+
+      by : (row : Row) (rest : List Kind) (gs : List PendingFrame) → Sees P d newest row → AreFrames P acts newest row rest (f ∷ gs) → (more : List Kind) × AreFrames P acts newest row more (given v gs)
+      by row rest [] sees fr = absurd (let clash : OfExpr (Operation o ps) ≡ OfStatement row.form = fr.0 in grind (arith, clash))
+      by row (k ∷ ks) (g ∷ gs) sees fr =
+          absurd (let (e, found) = some_part P row fr.5.0 k ks ps fr.5.1 in
+          let clash : None ≡ Some e = sym full ∙ ap (part_at ps) (as_many P acts newest row fr.5.0 kept fr.5.2) ∙ found in grind (arith, clash))
+      by row [] (g ∷ gs) sees fr =
+          let inner : OfExpr (Operation o ps) ≡ OfExpr (Operation fr.0 fr.1) = fr.4 in
+          let op_same : fr.0 ≡ o = cc inner in
+          (fr.3, value_keeps P acts newest row fr.2 fr.3 (g ∷ gs) v (is_of row fr.2 fr.5.0 sees (subst (λ x. IsOp P row.routine row.around x (fr.5.0 ++ []) fr.2) op_same fr.5.3) fr.5.2) fr.6)

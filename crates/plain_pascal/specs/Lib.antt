@@ -1,0 +1,16 @@
+pub mod Program
+pub mod State
+pub mod Memory
+pub mod Integers
+pub mod Sets
+pub mod Writing
+pub mod Reading
+pub mod Heap
+pub mod Operations
+pub mod Statements
+pub mod Step
+pub mod Run
+pub mod Evaluation
+pub mod Calls
+pub mod Typed
+pub mod Valid

@@ -1,0 +1,141 @@
+-- The states that a program can be in: each activation is one of a routine of the program, stands at a statement of it,
+-- and has the words, holds and kept values of that place.
+use Rattle.std.specs.Prelude.{◌≡◌, ℕ, ◌+◌, ◌≤◌, ◌<◌, List, [], ◌∷◌, ◌++◌, length, Some, None, slice_get, ◌⊎◌}
+use Rattle.std.specs.List.{AllByRecursion}
+use Rattle.core_tree.specs.declared.op.Op.{Op}
+use Rattle.core_tree.specs.declared.op.Op.TheVariants as op
+use Rattle.core_tree.specs.Plain.{Operation, Exprs, part_at}
+use Rattle.plain_pascal.specs.Program.{Kind, NoKind, WordKind, SetKind, PlaceKind, Row, RoutineRow, Program, row_of, routine_of}
+use Rattle.plain_pascal.specs.State.{Status, NotStarted, Halted, Place, Global, Local, Heap, Literal, Value, Word, Members, At, NoValue, Node, OfStatement, OfExpr, PendingFrame, Activation, Cell, Data, Control, State, globals_count, heap_count}
+use Rattle.plain_pascal.specs.Memory.{from_activation, words_of}
+use Rattle.plain_pascal.specs.Step.{stack_charges, stack_room, parts_of}
+use Rattle.plain_pascal.specs.Typed.{slots_of, AreExprs, IsOp, IsStatement, IsForm}
+
+abbrev pub IsWord : ℕ → Type 0
+IsWord w = w < 65536
+
+-- ---- values
+
+-- these words are plain words
+abbrev pub ArePlain : List Value → ℕ → ℕ → Type 0
+ArePlain vs w n = (i : ℕ) → i < n → (x : ℕ) × IsWord x × (slice_get vs (w + i) ≡ Some (Word x))
+
+-- a place of so many words lies inside what it names, which is no activation newer than that of this number
+abbrev pub LiesIn : List Activation → ℕ → Place → ℕ → Type 0
+LiesIn acts newest (Global w) n = w + n ≤ globals_count
+LiesIn acts newest (Local a w) n = (a ≤ newest) × (w + n ≤ length (words_of (from_activation acts a))) × ArePlain (words_of (from_activation acts a)) w n
+LiesIn acts newest (Heap w) n = w + n ≤ heap_count
+LiesIn acts newest (Literal text) n = (n ≤ length text) × AllByRecursion (λ c. c < 128) text
+
+-- a value is of a kind
+abbrev pub IsOf : List Activation → ℕ → Kind → Value → Type 0
+IsOf acts newest NoKind NoValue = Unit {0}
+IsOf acts newest WordKind (Word w) = IsWord w
+IsOf acts newest SetKind (Members ws) = (length ws ≡ 8) × AllByRecursion IsWord ws
+IsOf acts newest (PlaceKind n) (At p) = LiesIn acts newest p n
+IsOf acts newest k v = ⊥
+
+abbrev pub AreOf : List Activation → ℕ → List Kind → List Value → Type 0
+AreOf acts newest [] [] = Unit {0}
+AreOf acts newest (k ∷ ks) (v ∷ vs) = IsOf acts newest k v × AreOf acts newest ks vs
+AreOf acts newest ks vs = ⊥
+
+-- ---- one activation
+
+-- a frame has values for the first parts of its node, and values of these kinds are still to come; T is what the kinds of
+-- all parts are for
+abbrev pub Fits : Program → List Activation → ℕ → Row → List Kind → PendingFrame → (List Kind → Type 0) → Type 0
+Fits P acts newest row rest f T = (done : List Kind) × AreExprs P row.routine row.around (parts_of f.node) (done ++ rest) × AreOf acts newest done f.kept × T (done ++ rest)
+
+-- the outermost frame is the statement's, and the value of each other one is the next that the frame outside wants
+abbrev pub AreFrames : Program → List Activation → ℕ → Row → List Kind → List PendingFrame → Type 0
+AreFrames P acts newest row rest [] = ⊥
+AreFrames P acts newest row rest (f ∷ []) = (f.node ≡ OfStatement row.form) × Fits P acts newest row rest f (IsStatement P row.routine row.form.op)
+AreFrames P acts newest row rest (f ∷ (g ∷ fs)) =
+    (o : Op) × (ps : Exprs) × (k : Kind) × (ks : List Kind) × (f.node ≡ OfExpr (Operation o ps))
+    × Fits P acts newest row rest f (λ kinds. IsOp P row.routine row.around o kinds k) × AreFrames P acts newest row (k ∷ ks) (g ∷ fs)
+
+-- the innermost frame is a call of a routine, with all its arguments
+abbrev pub CallsIn : Node → ℕ → ℕ → Type 0
+CallsIn (OfExpr (Operation (op.Call c) ps)) n kept = (c.routine.0 ≡ n) × (part_at ps kept ≡ None)
+CallsIn x n kept = ⊥
+
+abbrev pub Waits : List PendingFrame → ℕ → Type 0
+Waits [] n = ⊥
+Waits (f ∷ fs) n = CallsIn f.node n (length f.kept)
+
+-- the holds are those around the statement, and those that a `with` in progress has found so far
+abbrev pub AreHeld : List Activation → ℕ → Row → List Value → Type 0
+AreHeld acts newest row vs = (found : List Kind) × (length vs ≡ length row.around + length found) × AreOf acts newest (row.around ++ found) vs
+
+-- a statement of the routine, in progress or not
+pub record AtStatement (P : Program) (acts : List Activation) (newest : ℕ) (a : Activation) (c : Control) : Type 0 where
+  pub row : Row
+  pub found : row_of P c.statement ≡ Some row
+  pub inside : row.routine ≡ a.routine
+  pub held : AreHeld acts newest row a.holds
+  pub frames : (c.frames ≡ []) ⊎ ((rest : List Kind) × AreFrames P acts newest row rest c.frames)
+
+-- the static parent is an older activation of the owner, and the oldest activation is the program's
+abbrev pub HasParent : RoutineRow → Activation → List Activation → Type 0
+HasParent r a [] = (r.owner ≡ 0) × (a.routine ≡ 1)
+HasParent r a older = (a.static_link < length older) × (b : Activation) × (rest : List Activation) × (from_activation older a.static_link ≡ b ∷ rest) × (b.routine ≡ r.owner)
+
+pub record IsActivation (P : Program) (acts : List Activation) (a : Activation) (older : List Activation) : Type 0 where
+  pub row : RoutineRow
+  pub found : routine_of P a.routine ≡ Some row
+  pub words : AreOf acts (length older) (slots_of row) a.words
+  pub parent : HasParent row a older
+
+-- those that wait for a newer activation of this routine
+abbrev pub AllWait : Program → List Activation → ℕ → List Control → List Activation → Type 0
+AllWait P acts n [] [] = Unit {0}
+AllWait P acts n (c ∷ cs) (a ∷ older) = IsActivation P acts a older × AtStatement P acts (length older) a c × Waits c.frames n × AllWait P acts a.routine cs older
+AllWait P acts n cs older = ⊥
+
+-- the newest stands at a statement, or at its routine's gate
+abbrev pub NewestStands : Program → List Activation → List Control → List Activation → Type 0
+NewestStands P acts (c ∷ cs) (a ∷ older) =
+    IsActivation P acts a older × (AtStatement P acts (length older) a c ⊎ ((c.statement ≡ a.routine) × (c.frames ≡ []) × (a.holds ≡ []))) × AllWait P acts a.routine cs older
+NewestStands P acts cs as' = ⊥
+
+-- ---- the heap
+
+abbrev pub Apart : Cell → Cell → Type 0
+Apart c d = (c.place + c.size ≤ d.place) ⊎ (d.place + d.size ≤ c.place)
+
+abbrev pub AreCells : ℕ → List Cell → Type 0
+AreCells used [] = Unit {0}
+AreCells used (c ∷ cs) = (1 ≤ c.size) × (c.place + c.size ≤ used) × AllByRecursion (Apart c) cs × AreCells used cs
+
+pub record IsData (d : Data) : Type 0 where
+  pub globals_long : length d.globals ≡ globals_count
+  pub globals_words : AllByRecursion IsWord d.globals
+  pub heap_long : length d.heap ≡ heap_count
+  pub heap_words : AllByRecursion IsWord d.heap
+  pub used : d.used ≤ heap_count
+  pub cells : AreCells d.used (d.live ++ d.free)
+  pub stack : stack_charges d.activations ≤ stack_room
+  pub input : AllByRecursion (λ b. b < 256) d.input
+
+-- ---- states
+
+abbrev pub StandsBy : Status → Program → State → Type 0
+StandsBy NotStarted P s = (s.control ≡ []) × (s.data_now.activations ≡ [])
+StandsBy Halted P s = NewestStands P s.data_now.activations s.control s.data_now.activations
+StandsBy other P s = Unit {0}
+
+-- a state of a program
+pub record IsWellFormed (P : Program) (s : State) : Type 0 where
+  pub data_good : IsData s.data_now
+  pub stands : StandsBy s.status P s
+
+-- a program whose statements and links are in order
+-- a routine's body begins at a statement of its own, in no holds
+abbrev pub HasEntry : Program → RoutineRow → Type 0
+HasEntry P r = (row : Row) × (row_of P r.entry ≡ Some row) × (row.routine ≡ r.name) × (row.around ≡ [])
+
+pub record IsProgram (P : Program) : Type 0 where
+  pub entries : (n : ℕ) (r : RoutineRow) → routine_of P n ≡ Some r → HasEntry P r
+  pub no_zero : routine_of P 0 ≡ None
+  pub forms : (n : ℕ) (row : Row) → row_of P n ≡ Some row → IsForm P row
