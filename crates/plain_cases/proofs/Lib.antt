@@ -1,0 +1,13 @@
+mod Bounds
+mod Cells
+mod Counts
+mod Errors
+mod Factorial
+mod Jumps
+mod Locals
+mod Orders
+mod Readings
+mod Records
+mod Rooms
+mod Sets
+mod Sums
