@@ -15,7 +15,8 @@ use Rattle.plain_pascal.proofs.Kept.{as_many}
 use Rattle.plain_pascal.proofs.Keeps.{some_part}
 use Rattle.plain_pascal.proofs.Scopes.{standing_all}
 use Rattle.plain_pascal.proofs.Moves.{waits_moved, activation_moved, statement_moved, lies_grown}
-use Rattle.plain_pascal.proofs.Enters.{row_named, frame_sound, has_parent, entry_stands}
+use Rattle.plain_pascal.proofs.Named.{row_named}
+use Rattle.plain_pascal.proofs.Enters.{frame_sound, has_parent, entry_stands}
 
 module _ (P : Program) (program : IsProgram P) (n : ℕ) (cs : List Control) (d : Data) (good : IsData d) (a : Activation) (xs : List Activation) (same : d.activations ≡ a ∷ xs) (c : Callee) (ps : Exprs) (kept : List Value) (fs : List PendingFrame) (full : part_at ps (length kept) ≡ None) (r : RoutineRow) (found : routine_of P c.routine.0 ≡ Some r) (hs : List Value) (empty : hs ≡ []) where
   abbrev f : PendingFrame
@@ -29,7 +30,7 @@ module _ (P : Program) (program : IsProgram P) (n : ℕ) (cs : List Control) (d 
   new = record { routine = r.name; static_link = parent_of c.scope acts; words = frame_words d r.form kept; holds = hs }
 
   named : r.name ≡ c.routine.0
-  named = row_named P.routines c.routine.0 r found
+  named = row_named P c.routine.0 r found
 
   -- what the waiting frame says of the call
   IsTyped : ℕ → Type 0

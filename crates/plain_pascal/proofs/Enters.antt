@@ -21,15 +21,7 @@ use Rattle.plain_pascal.proofs.Sound.{place_word}
 use Rattle.plain_pascal.proofs.Places.{moved_lies, shorter_lies, newer_lies}
 use Rattle.plain_pascal.proofs.Scopes.{AllActivations, Found, scope_found, all_from, drop_count}
 use Rattle.plain_pascal.proofs.Moves.{lies_grown}
-
--- what is found by a name bears it
-pub row_named : (rs : List RoutineRow) (n : ℕ) (r : RoutineRow) → find (λ x. x.name == n) rs ≡ Some r → r.name ≡ n
-row_named [] n r e = absurd (grind (arith, e))
-row_named (x ∷ rs) n r e = by (x.name == n) refl e (λ h. row_named rs n r h)
-  where
-    by : (b : Bool) → (x.name == n) ≡ b → (if b then Some x else find (λ y. y.name == n) rs) ≡ Some r → (find (λ y. y.name == n) rs ≡ Some r → r.name ≡ n) → r.name ≡ n
-    by true t h rest = let same : x ≡ r = cc h in let k : x.name ≡ n = grind (arith, nat_tests, t) in sym (ap (λ y. y.name) same) ∙ k
-    by false t h rest = rest h
+use Rattle.plain_pascal.proofs.Named.{row_named}
 
 -- ---- lists of values
 
@@ -132,7 +124,7 @@ module _ (P : Program) (program : IsProgram P) (a : Activation) (xs : List Activ
   has_parent (scope.Routine k) owner h =
       let f : Found P (a ∷ xs) (linked_up (a ∷ xs) k) h.0 = scope_found P program.no_zero a xs all k h.0 h.1 in
       let long : length (a ∷ xs) ≡ (length (a ∷ xs) - suc (linked_up (a ∷ xs) k)) + suc (length f.older) = drop_count (length (a ∷ xs) - suc (linked_up (a ∷ xs) k)) (a ∷ xs) f.activation f.older f.at in
-      (omega (arith, long, f.count), f.activation, f.older, f.at, sym (row_named P.routines f.activation.routine h.0 f.row) ∙ h.2)
+      (omega (arith, long, f.count), f.activation, f.older, f.at, sym (row_named P f.activation.routine h.0 f.row) ∙ h.2)
 
 -- ---- before the first gate of its body
 

@@ -14,3 +14,6 @@ pub mod Evaluation
 pub mod Calls
 pub mod Typed
 pub mod Valid
+pub mod Blocks
+pub mod Stages
+pub mod Marked

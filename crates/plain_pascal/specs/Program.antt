@@ -1,6 +1,6 @@
 -- A program as the plain machine walks it: its statements and its routines, found by name, from the one table of its blocks
 -- (`machine_rows`), which says where control goes after each.
-use Rattle.std.specs.Prelude.{ℕ, ◌==◌, List, [], ◌∷◌, ◌++◌, Option, Some, None, find, if◌then◌else◌, slice_index}
+use Rattle.std.specs.Prelude.{ℕ, ◌==◌, List, [], ◌∷◌, ◌++◌, Option, Some, None, option_map, find, if◌then◌else◌, slice_index}
 use Rattle.core_tree.specs.declared.op.Op.{Op}
 use Rattle.core_tree.specs.declared.op.Op.TheVariants as op
 use Rattle.core_tree.specs.declared.op.EffectOp.TheVariants as effect
@@ -38,9 +38,13 @@ pub record RoutineRow : Type 0 where
   pub entry : ℕ
   pub labels : List Label
 
+-- the table of all blocks, and the list of routines
 pub record Program : Type 0 where
-  pub routines : List RoutineRow
-  pub rows : List Row
+  pub rows : List MachineRow
+  pub routines : List ListedRoutine
+
+abbrev pub program_of : Routine → Program
+program_of p = record { rows = machine_rows p; routines = core_routines p }
 
 -- ---- what a `for` and a `with` hold
 
@@ -62,17 +66,21 @@ abbrev pub held_around : List Enclosing → List Kind
 held_around [] = []
 held_around (x ∷ xs) = held_inside x.form.op x.form.parts ++ held_around xs
 
--- ---- the program of a routine
+-- ---- a statement of the table
 
--- each statement has a continuation
-abbrev pub statement_in : MachineRow → BlockForm → Option Continuation → List Row
-statement_in r (StatementBlock f) (Some next) =
-    record { name = r.name; routine = r.routine; form = f; continuation = next; branches = r.entries; around = held_around r.around } ∷ []
-statement_in r form next = []
+abbrev pub statement_in : MachineRow → Option Continuation → BlockForm → Option Row
+statement_in r (Some next) (StatementBlock f) =
+    Some (record { name = r.name; routine = r.routine; form = f; continuation = next; branches = r.entries; around = held_around r.around })
+statement_in r next form = None
 
-abbrev pub statements_in : List MachineRow → List Row
-statements_in [] = []
-statements_in (r ∷ rs) = statement_in r r.form r.next ++ statements_in rs
+abbrev pub row_in : Option MachineRow → Option Row
+row_in None = None
+row_in (Some r) = statement_in r r.next r.form
+
+abbrev pub row_of : Program → ℕ → Option Row
+row_of P n = row_in (find (λ r. r.name == n) P.rows)
+
+-- ---- a routine of the list
 
 abbrev pub owner_in : BlockForm → ℕ → ℕ
 owner_in (RoutineBlock f) owner = owner
@@ -86,6 +94,7 @@ abbrev pub references_of : List Formal → List ℕ
 references_of [] = []
 references_of (p ∷ ps) = (if p.by_place then counted_words (words_of p.shape) ∷ [] else []) ++ references_of ps
 
+-- where the body of a block begins
 abbrev pub body_entry : Option MachineRow → ℕ
 body_entry None = 0
 body_entry (Some r) = slice_index r.entries 0
@@ -100,17 +109,5 @@ routine_in rows r = record {
   labels = r.labels;
 }
 
-abbrev pub routines_in : List MachineRow → List ListedRoutine → List RoutineRow
-routines_in rows [] = []
-routines_in rows (r ∷ rs) = routine_in rows r ∷ routines_in rows rs
-
-abbrev pub program_of : Routine → Program
-program_of p = record { routines = routines_in (machine_rows p) (core_routines p); rows = statements_in (machine_rows p) }
-
--- ---- found by name
-
-abbrev pub row_of : Program → ℕ → Option Row
-row_of P n = find (λ r. r.name == n) P.rows
-
 abbrev pub routine_of : Program → ℕ → Option RoutineRow
-routine_of P n = find (λ r. r.name == n) P.routines
+routine_of P n = option_map (routine_in P.rows) (find (λ r. r.head.name == n) P.routines)
