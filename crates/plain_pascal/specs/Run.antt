@@ -115,3 +115,11 @@ run_by other P marks k s = unless_over (over_by s.status) s (λ t. ends AtEnd t)
 -- a run of so many gates, which begins with no output; the gate before which it is halted is passed first
 abbrev pub run_of : Program → Marks → ℕ → State → RunResult
 run_of P marks k s = run_by s.status P marks k (record s { data_now = record s.data_now { output = []; drained = 0 } })
+
+-- what a run comes to that goes on, with so many gates more, where it was stopped
+abbrev pub continued_by : Ending → ℕ → Program → Marks → RunResult → RunResult
+continued_by (Stopped n) k P marks r = with_event r.events (driven k P marks r.last)
+continued_by other k P marks r = r
+
+abbrev pub continued : ℕ → Program → Marks → RunResult → RunResult
+continued k P marks r = continued_by r.ending k P marks r
