@@ -7,6 +7,7 @@ use Rattle.core_tree.specs.declared.form.StatementOp.{StatementOp}
 use Rattle.core_tree.specs.declared.form.StatementOp.TheVariants as stmt
 use Rattle.core_tree.specs.Plain.{Form, BlockForm, ProgramBlock, RoutineBlock, StatementBlock, Statement, Stmt, Statements, Last, Then, head_form, Routine, Block, Routines, NoRoutine, Also}
 use Rattle.core_tree.specs.Control.{Continuation, Enclosing, MachineRow, machine_flow, after_body, after_in, after_inner, around_in, entries_of, first_entry, head_row, in_sequence, inner_rows, next_in, op_in, own_row, routine_rows, routines_rows, statement_rows}
+use Rattle.plain_pascal.specs.Resolved.{IsFound}
 use Rattle.plain_pascal.specs.Program.{Program as Table, Row, held_around, row_in, row_of}
 use Rattle.plain_pascal.proofs.Named.{every_front, every_back, every_join, OfStatements}
 use Rattle.plain_pascal.proofs.Stage.{IsChain}
@@ -60,10 +61,6 @@ abbrev pub row_at : Form → ℕ → ℕ → List ℕ → C → E → Row
 row_at f n r entries after around = record { name = n; routine = r; form = f; continuation = after; branches = entries; around = held_around around }
 
 module _ (P : Table) where
-  -- a block is found by its name
-  abbrev pub IsFound : MachineRow → Type 0
-  IsFound x = find (λ r. r.name == x.name) P.rows ≡ Some x
-
   abbrev pub IsChainedRow : Row → Type 0
   IsChainedRow x = IsChain P x.continuation
 
@@ -92,7 +89,7 @@ module _ (P : Table) where
   sequence_chain (Some f) stmt.Repeat ss behind h = next_chain ss behind h
   sequence_chain (Some f) o ss behind h = h
 
-  behind_chain : (f : Option Form) (n r : ℕ) (ss : Statements) (behind : Continuation) (around : List Enclosing) → AllByRecursion IsFound (own_of f n r (entries_of ss) behind around) → IsChain P behind → IsChain P (behind_of f n (first_entry ss) behind)
+  behind_chain : (f : Option Form) (n r : ℕ) (ss : Statements) (behind : Continuation) (around : List Enclosing) → AllByRecursion (IsFound P) (own_of f n r (entries_of ss) behind around) → IsChain P behind → IsChain P (behind_of f n (first_entry ss) behind)
   behind_chain None n r ss behind around found h = h
   behind_chain (Some f) n r ss behind around found h = inner_chain f.op f refl n r ss behind around (ap row_in found.0) h
 
@@ -101,20 +98,20 @@ module _ (P : Table) where
   own_chain (Some f) n r branches behind around h = (h, tt)
 
   mutual
-    pub statement_chains : (s : Statement) (r : ℕ) (behind : Continuation) (around : List Enclosing) → AllByRecursion IsFound (rows_of s r behind around) → IsChain P behind → AllByRecursion IsChained (rows_of s r behind around)
+    pub statement_chains : (s : Statement) (r : ℕ) (behind : Continuation) (around : List Enclosing) → AllByRecursion (IsFound P) (rows_of s r behind around) → IsChain P behind → AllByRecursion IsChained (rows_of s r behind around)
     statement_chains (Stmt n l f ss) r behind around found h =
         every_join IsChained (own_of f n r (entries_of ss) behind around) (inner_of ss f r (behind_of f n (first_entry ss) behind) (around_of f n around))
         (own_chain f n r (entries_of ss) behind around h)
         (inner_chains ss f r (behind_of f n (first_entry ss) behind) (around_of f n around)
-        (every_back IsFound (own_of f n r (entries_of ss) behind around) (inner_of ss f r (behind_of f n (first_entry ss) behind) (around_of f n around)) found)
-        (behind_chain f n r ss behind around (every_front IsFound (own_of f n r (entries_of ss) behind around) (inner_of ss f r (behind_of f n (first_entry ss) behind) (around_of f n around)) found) h))
+        (every_back (IsFound P) (own_of f n r (entries_of ss) behind around) (inner_of ss f r (behind_of f n (first_entry ss) behind) (around_of f n around)) found)
+        (behind_chain f n r ss behind around (every_front (IsFound P) (own_of f n r (entries_of ss) behind around) (inner_of ss f r (behind_of f n (first_entry ss) behind) (around_of f n around)) found) h))
 
-    pub inner_chains : (ss : Statements) (f : Option Form) (r : ℕ) (behind : Continuation) (around : List Enclosing) → AllByRecursion IsFound (inner_of ss f r behind around) → IsChain P behind → AllByRecursion IsChained (inner_of ss f r behind around)
+    pub inner_chains : (ss : Statements) (f : Option Form) (r : ℕ) (behind : Continuation) (around : List Enclosing) → AllByRecursion (IsFound P) (inner_of ss f r behind around) → IsChain P behind → AllByRecursion IsChained (inner_of ss f r behind around)
     inner_chains Last f r behind around found h = tt
     inner_chains (Then s ss) f r behind around found h =
         every_join IsChained (rows_of s r (sequence_of f (op_in f) ss behind) around) (inner_of ss f r behind around)
-        (statement_chains s r (sequence_of f (op_in f) ss behind) around (every_front IsFound (rows_of s r (sequence_of f (op_in f) ss behind) around) (inner_of ss f r behind around) found) (sequence_chain f (op_in f) ss behind h))
-        (inner_chains ss f r behind around (every_back IsFound (rows_of s r (sequence_of f (op_in f) ss behind) around) (inner_of ss f r behind around) found) h)
+        (statement_chains s r (sequence_of f (op_in f) ss behind) around (every_front (IsFound P) (rows_of s r (sequence_of f (op_in f) ss behind) around) (inner_of ss f r behind around) found) (sequence_chain f (op_in f) ss behind h))
+        (inner_chains ss f r behind around (every_back (IsFound P) (rows_of s r (sequence_of f (op_in f) ss behind) around) (inner_of ss f r behind around) found) h)
 
   leaving_chain : (form : BlockForm) (n : ℕ) → IsChain P (leaving form n)
   leaving_chain ProgramBlock n = tt
@@ -128,16 +125,16 @@ module _ (P : Table) where
   no_row T n (StatementBlock f) body = tt
 
   mutual
-    pub program_chains : (x : Routine) → AllByRecursion IsFound (blocks_in x) → AllByRecursion IsChained (blocks_in x)
+    pub program_chains : (x : Routine) → AllByRecursion (IsFound P) (blocks_in x) → AllByRecursion IsChained (blocks_in x)
     program_chains (Block head inner body) found =
         (no_row IsChainedRow head.name (head_form head) body,
         every_join IsChained (blocks_inside inner) (rows_of body head.name (leaving (head_form head) head.name) [])
-        (routines_chains inner (every_front IsFound (blocks_inside inner) (rows_of body head.name (leaving (head_form head) head.name) []) found.1))
-        (statement_chains body head.name (leaving (head_form head) head.name) [] (every_back IsFound (blocks_inside inner) (rows_of body head.name (leaving (head_form head) head.name) []) found.1) (leaving_chain (head_form head) head.name)))
+        (routines_chains inner (every_front (IsFound P) (blocks_inside inner) (rows_of body head.name (leaving (head_form head) head.name) []) found.1))
+        (statement_chains body head.name (leaving (head_form head) head.name) [] (every_back (IsFound P) (blocks_inside inner) (rows_of body head.name (leaving (head_form head) head.name) []) found.1) (leaving_chain (head_form head) head.name)))
 
-    pub routines_chains : (xs : Routines) → AllByRecursion IsFound (blocks_inside xs) → AllByRecursion IsChained (blocks_inside xs)
+    pub routines_chains : (xs : Routines) → AllByRecursion (IsFound P) (blocks_inside xs) → AllByRecursion IsChained (blocks_inside xs)
     routines_chains NoRoutine found = tt
     routines_chains (Also x xs) found =
         every_join IsChained (blocks_in x) (blocks_inside xs)
-        (program_chains x (every_front IsFound (blocks_in x) (blocks_inside xs) found))
-        (routines_chains xs (every_back IsFound (blocks_in x) (blocks_inside xs) found))
+        (program_chains x (every_front (IsFound P) (blocks_in x) (blocks_inside xs) found))
+        (routines_chains xs (every_back (IsFound P) (blocks_in x) (blocks_inside xs) found))

@@ -12,62 +12,35 @@ use Rattle.core_tree.specs.Plain.{Form, BlockForm, ProgramBlock, RoutineBlock, S
 use Rattle.core_tree.specs.Control.{Continuation, Enclosing, MachineRow, ToGate, ToStep, ToEnd, ToLeave, ToFinish, RoutineRow as ListedRoutine, entry_by, entries_of, entry_of, first_entry, labels_of, op_in, routine_list, routines_list}
 use Rattle.plain_machine.specs.Links.{Part, First, Gate, Step as StepPart, End as EndPart, Spot}
 use Rattle.plain_machine.specs.Meaning.{HasEnd, IsClosed}
+use Rattle.plain_pascal.specs.Resolved.{IsWhole, AreWhole, begins_within, count, IsWholeRoutine, AreWholeRoutines, HasProgram, HasRoutine, IsFound, IsListed, HasRow, IsGateOf, AreLabelled, AreDeclared}
 use Rattle.plain_pascal.specs.Program.{Program as Table, Row, RoutineRow, row_in, row_of, form_in, body_entry, routine_in, routine_of}
 use Rattle.plain_pascal.specs.Step.{label_gate, labels_in}
 use Rattle.plain_pascal.specs.Run.{entry_in}
 use Rattle.plain_pascal.specs.Blocks.{has_part, has_way, has_link, parts_call, is_for, is_with, pascal, gate, spot_of, routine_block, block_in, form_end, routine_end, way_end, blocks_of}
 use Rattle.plain_pascal.proofs.Named.{every_front, every_back, every_join, OfStatements, statement_found, OfRoutines, routine_found}
-use Rattle.plain_pascal.proofs.Stage.{HasProgram, HasRoutine, HasPartIn, IsSpot}
-use Rattle.plain_pascal.proofs.Chains.{rows_of, inner_of, own_of, behind_of, behind_by, around_of, next_of, sequence_of, leaving, head_of, blocks_in, blocks_inside, row_at, first_of, IsFound, no_row}
-
--- a compound statement and a `repeat` begin at the first statement in them, and a branch is there
-abbrev pub begins_within : Option Form → StatementOp → Bool
-begins_within None o = true
-begins_within (Some f) stmt.Repeat = true
-begins_within (Some f) o = false
-
-abbrev pub count : Statements → ℕ
-count Last = 0
-count (Then s ss) = suc (count ss)
-
-abbrev mutual
-  pub IsWhole : Statement → Type 0
-  IsWhole (Stmt n l f ss) = (begins_within f (op_in f) ≡ true → 0 < count ss) × (((k : ℕ) → has_way (op_in f) (Child k) ≡ true → k < count ss) × AreWhole ss)
-
-  pub AreWhole : Statements → Type 0
-  AreWhole Last = Unit {0}
-  AreWhole (Then s ss) = IsWhole s × AreWhole ss
+use Rattle.plain_pascal.proofs.Stage.{HasPartIn, IsSpot}
+use Rattle.plain_pascal.proofs.Chains.{rows_of, inner_of, own_of, behind_of, behind_by, around_of, next_of, sequence_of, leaving, head_of, blocks_in, blocks_inside, row_at, first_of, no_row}
 
 module _ (P : Table) where
-  -- a statement of a routine
-  pub record HasRow (n r : ℕ) : Type 0 where
-    pub row : Row
-    pub found : row_of P n ≡ Some row
-    pub inside : row.routine ≡ r
-
-  -- a gate of a routine: that of a statement in it, or its own
-  abbrev pub IsGateOf : ℕ → ℕ → Type 0
-  IsGateOf n r = HasRow n r ⊎ ((n ≡ r) × HasRoutine P r)
-
   -- what comes behind lies in a routine
   abbrev pub InRoutine : Continuation → ℕ → Type 0
-  InRoutine (ToGate n) r = IsGateOf n r
-  InRoutine (ToLeave n) r = IsGateOf n r
+  InRoutine (ToGate n) r = IsGateOf P n r
+  InRoutine (ToLeave n) r = IsGateOf P n r
   InRoutine ToFinish r = Unit {0}
-  InRoutine (ToStep n form body otherwise) r = HasRow body r × InRoutine otherwise r
+  InRoutine (ToStep n form body otherwise) r = HasRow P body r × InRoutine otherwise r
   InRoutine (ToEnd n otherwise) r = InRoutine otherwise r
 
   abbrev pub Behind : Continuation → ℕ → Type 0
   Behind k r = IsSpot P (spot_of k) × InRoutine k r
 
-  row_spot : (n r : ℕ) → HasRow n r → IsSpot P (gate n)
+  row_spot : (n r : ℕ) → HasRow P n r → IsSpot P (gate n)
   row_spot n r h = subst (λ x. HasPartIn P (block_in x (routine_of P n)) (gate n).part) (sym h.found) refl
 
-  own_row_of : (f : Form) (n r : ℕ) (branches : List ℕ) (behind : Continuation) (around : List Enclosing) → AllByRecursion (IsFound P) (own_of (Some f) n r branches behind around) → HasRow n r
+  own_row_of : (f : Form) (n r : ℕ) (branches : List ℕ) (behind : Continuation) (around : List Enclosing) → AllByRecursion (IsFound P) (own_of (Some f) n r branches behind around) → HasRow P n r
   own_row_of f n r branches behind around h = record { row = row_at f n r branches behind around; found = ap row_in h.0; inside = refl }
 
   mutual
-    pub entry_row : (s : Statement) → IsWhole s → (r : ℕ) (behind : Continuation) (around : List Enclosing) → AllByRecursion (IsFound P) (rows_of s r behind around) → HasRow (entry_of s) r
+    pub entry_row : (s : Statement) → IsWhole s → (r : ℕ) (behind : Continuation) (around : List Enclosing) → AllByRecursion (IsFound P) (rows_of s r behind around) → HasRow P (entry_of s) r
     entry_row (Stmt n l None ss) whole r behind around found =
         first_row ss (whole.0 refl) whole.1.1 None r behind (around_of None n around) found
     entry_row (Stmt n l (Some f) ss) whole r behind around found =
@@ -75,16 +48,16 @@ module _ (P : Table) where
         (λ e. first_row ss (whole.0 e) whole.1.1 (Some f) r (behind_of (Some f) n (first_entry ss) behind) (around_of (Some f) n around)
         (every_back (IsFound P) (own_of (Some f) n r (entries_of ss) behind around) (inner_of ss (Some f) r (behind_of (Some f) n (first_entry ss) behind) (around_of (Some f) n around)) found))
       where
-        by : (o : StatementOp) → f.op ≡ o → HasRow n r → (begins_within (Some f) o ≡ true → HasRow (first_entry ss) r) → HasRow (entry_by (Some f) o n (first_entry ss)) r
+        by : (o : StatementOp) → f.op ≡ o → HasRow P n r → (begins_within (Some f) o ≡ true → HasRow P (first_entry ss) r) → HasRow P (entry_by (Some f) o n (first_entry ss)) r
         by stmt.Repeat e own inner = inner refl
         by o e own inner = own
 
-    pub first_row : (ss : Statements) → 0 < count ss → AreWhole ss → (f : Option Form) (r : ℕ) (behind : Continuation) (around : List Enclosing) → AllByRecursion (IsFound P) (inner_of ss f r behind around) → HasRow (first_entry ss) r
+    pub first_row : (ss : Statements) → 0 < count ss → AreWhole ss → (f : Option Form) (r : ℕ) (behind : Continuation) (around : List Enclosing) → AllByRecursion (IsFound P) (inner_of ss f r behind around) → HasRow P (first_entry ss) r
     first_row Last some whole f r behind around found = absurd (omega (arith, some))
     first_row (Then s ss) some whole f r behind around found =
         entry_row s whole.0 r (sequence_of f (op_in f) ss behind) around (every_front (IsFound P) (rows_of s r (sequence_of f (op_in f) ss behind) around) (inner_of ss f r behind around) found)
 
-  pub branch_row : (ss : Statements) (k : ℕ) → k < count ss → AreWhole ss → (f : Option Form) (r : ℕ) (behind : Continuation) (around : List Enclosing) → AllByRecursion (IsFound P) (inner_of ss f r behind around) → HasRow (slice_index (entries_of ss) k) r
+  pub branch_row : (ss : Statements) (k : ℕ) → k < count ss → AreWhole ss → (f : Option Form) (r : ℕ) (behind : Continuation) (around : List Enclosing) → AllByRecursion (IsFound P) (inner_of ss f r behind around) → HasRow P (slice_index (entries_of ss) k) r
   branch_row Last k less whole f r behind around found = absurd (omega (arith, less))
   branch_row (Then s ss) zero less whole f r behind around found = first_row (Then s ss) less whole f r behind around found
   branch_row (Then s ss) (suc k) less whole f r behind around found =
@@ -96,15 +69,15 @@ module _ (P : Table) where
   part_spot n row part found h = subst (λ x. HasPartIn P (block_in x (routine_of P n)) part) (sym found) h
 
   inner_spot : (o : StatementOp) (f : Form) → f.op ≡ o → (n r : ℕ) (ss : Statements) (behind : Continuation) (around : List Enclosing)
-      → row_of P n ≡ Some (row_at f n r (entries_of ss) behind around) → ((k : ℕ) → has_way o (Child k) ≡ true → HasRow (slice_index (entries_of ss) k) r) → Behind behind r → Behind (behind_by f o n (first_entry ss) behind) r
-  inner_spot (stmt.For loop) f e n r ss behind around found body h = (part_spot n (row_at f n r (entries_of ss) behind around) StepPart found (ap is_for e), (subst (λ k. HasRow k r) (first_of P ss) (body 0 refl), h.1))
+      → row_of P n ≡ Some (row_at f n r (entries_of ss) behind around) → ((k : ℕ) → has_way o (Child k) ≡ true → HasRow P (slice_index (entries_of ss) k) r) → Behind behind r → Behind (behind_by f o n (first_entry ss) behind) r
+  inner_spot (stmt.For loop) f e n r ss behind around found body h = (part_spot n (row_at f n r (entries_of ss) behind around) StepPart found (ap is_for e), (subst (λ k. HasRow P k r) (first_of P ss) (body 0 refl), h.1))
   inner_spot stmt.With f e n r ss behind around found body h = (part_spot n (row_at f n r (entries_of ss) behind around) EndPart found (ap is_with e), h.1)
   inner_spot stmt.While f e n r ss behind around found body h = (part_spot n (row_at f n r (entries_of ss) behind around) Gate found refl, inl (record { row = row_at f n r (entries_of ss) behind around; found = found; inside = refl }))
   inner_spot stmt.Repeat f e n r ss behind around found body h = (part_spot n (row_at f n r (entries_of ss) behind around) Gate found refl, inl (record { row = row_at f n r (entries_of ss) behind around; found = found; inside = refl }))
   inner_spot o f e n r ss behind around found body h = h
 
   behind_spot : (f : Option Form) (n r : ℕ) (ss : Statements) (behind : Continuation) (around : List Enclosing) → AllByRecursion (IsFound P) (own_of f n r (entries_of ss) behind around)
-      → ((k : ℕ) → has_way (op_in f) (Child k) ≡ true → HasRow (slice_index (entries_of ss) k) r) → Behind behind r → Behind (behind_of f n (first_entry ss) behind) r
+      → ((k : ℕ) → has_way (op_in f) (Child k) ≡ true → HasRow P (slice_index (entries_of ss) k) r) → Behind behind r → Behind (behind_of f n (first_entry ss) behind) r
   behind_spot None n r ss behind around found body h = h
   behind_spot (Some f) n r ss behind around found body h = inner_spot f.op f refl n r ss behind around (ap row_in found.0) body h
 
@@ -120,12 +93,12 @@ module _ (P : Table) where
   -- ---- rows
 
   abbrev pub IsClosedRow : Row → Type 0
-  IsClosedRow x = Behind x.continuation x.routine × ((k : ℕ) → has_way x.form.op (Child k) ≡ true → HasRow (slice_index x.branches k) x.routine)
+  IsClosedRow x = Behind x.continuation x.routine × ((k : ℕ) → has_way x.form.op (Child k) ≡ true → HasRow P (slice_index x.branches k) x.routine)
 
   abbrev pub IsClosedBlock : MachineRow → Type 0
   IsClosedBlock = OfStatements IsClosedRow
 
-  own_closed : (f : Option Form) (n r : ℕ) (branches : List ℕ) (behind : Continuation) (around : List Enclosing) → Behind behind r → ((k : ℕ) → has_way (op_in f) (Child k) ≡ true → HasRow (slice_index branches k) r)
+  own_closed : (f : Option Form) (n r : ℕ) (branches : List ℕ) (behind : Continuation) (around : List Enclosing) → Behind behind r → ((k : ℕ) → has_way (op_in f) (Child k) ≡ true → HasRow P (slice_index branches k) r)
       → AllByRecursion IsClosedBlock (own_of f n r branches behind around)
   own_closed None n r branches behind around h hs = tt
   own_closed (Some f) n r branches behind around h hs = ((h, hs), tt)
@@ -134,7 +107,7 @@ module _ (P : Table) where
     pub statement_closed : (s : Statement) → IsWhole s → (r : ℕ) (behind : Continuation) (around : List Enclosing) → AllByRecursion (IsFound P) (rows_of s r behind around) → Behind behind r → AllByRecursion IsClosedBlock (rows_of s r behind around)
     statement_closed (Stmt n l f ss) whole r behind around found h =
         let inner : AllByRecursion (IsFound P) (inner_of ss f r (behind_of f n (first_entry ss) behind) (around_of f n around)) = every_back (IsFound P) (own_of f n r (entries_of ss) behind around) (inner_of ss f r (behind_of f n (first_entry ss) behind) (around_of f n around)) found in
-        let branches : (k : ℕ) → has_way (op_in f) (Child k) ≡ true → HasRow (slice_index (entries_of ss) k) r = λ k e. branch_row ss k (whole.1.0 k e) whole.1.1 f r (behind_of f n (first_entry ss) behind) (around_of f n around) inner in
+        let branches : (k : ℕ) → has_way (op_in f) (Child k) ≡ true → HasRow P (slice_index (entries_of ss) k) r = λ k e. branch_row ss k (whole.1.0 k e) whole.1.1 f r (behind_of f n (first_entry ss) behind) (around_of f n around) inner in
         every_join IsClosedBlock (own_of f n r (entries_of ss) behind around) (inner_of ss f r (behind_of f n (first_entry ss) behind) (around_of f n around))
         (own_closed f n r (entries_of ss) behind around h branches)
         (inner_closed ss whole.1.1 f r (behind_of f n (first_entry ss) behind) (around_of f n around) inner
@@ -150,18 +123,6 @@ module _ (P : Table) where
         (inner_closed ss whole.1 f r behind around others h)
 
   -- ---- routines
-
-  -- a routine of the list is found by its name
-  abbrev pub IsListed : ListedRoutine → Type 0
-  IsListed x = find (λ r. r.head.name == x.head.name) P.routines ≡ Some x
-
-  abbrev mutual
-    pub IsWholeRoutine : Routine → Type 0
-    IsWholeRoutine (Block head inner body) = IsWhole body × AreWholeRoutines inner
-
-    pub AreWholeRoutines : Routines → Type 0
-    AreWholeRoutines NoRoutine = Unit {0}
-    AreWholeRoutines (Also x xs) = IsWholeRoutine x × AreWholeRoutines xs
 
   -- the routine's own block is no statement
   no_statement : (n : ℕ) (form : BlockForm) (body : Statement) → IsFound P (head_of n form body) → row_of P n ≡ None
@@ -182,14 +143,14 @@ module _ (P : Table) where
       (subst (λ y. HasPartIn P y EndPart) (sym (ap (λ r. block_in r (routine_of P 1)) program.no_statement ∙ ap (λ r. block_in None r) program.found ∙ ap (λ f. Some (routine_block f)) program.form)) refl, tt)
 
   abbrev pub HasEntry : RoutineRow → Type 0
-  HasEntry x = HasRow x.entry x.name
+  HasEntry x = HasRow P x.entry x.name
 
   abbrev pub HasEntryListed : ListedRoutine → Type 0
   HasEntryListed = OfRoutines P HasEntry
 
   module _ (program : HasProgram P) where
     mutual
-      pub routine_closed : (x : Routine) → IsWholeRoutine x → (owner : ℕ) → AllByRecursion IsListed (routine_list owner x) → AllByRecursion (IsFound P) (blocks_in x) → AllByRecursion IsClosedBlock (blocks_in x)
+      pub routine_closed : (x : Routine) → IsWholeRoutine x → (owner : ℕ) → AllByRecursion (IsListed P) (routine_list owner x) → AllByRecursion (IsFound P) (blocks_in x) → AllByRecursion IsClosedBlock (blocks_in x)
       routine_closed (Block head inner body) whole owner blocks found =
           (no_row P IsClosedRow head.name (head_form head) body,
           every_join IsClosedBlock (blocks_inside inner) (rows_of body head.name (leaving (head_form head) head.name) [])
@@ -197,17 +158,17 @@ module _ (P : Table) where
           (statement_closed body whole.0 head.name (leaving (head_form head) head.name) [] (every_back (IsFound P) (blocks_inside inner) (rows_of body head.name (leaving (head_form head) head.name) []) found.1)
           (leaving_spot program owner head body (head_form head) refl (ap (option_map (routine_in P.rows)) blocks.0) (no_statement head.name (head_form head) body found.0))))
 
-      pub routines_closed : (xs : Routines) → AreWholeRoutines xs → (owner : ℕ) → AllByRecursion IsListed (routines_list owner xs) → AllByRecursion (IsFound P) (blocks_inside xs) → AllByRecursion IsClosedBlock (blocks_inside xs)
+      pub routines_closed : (xs : Routines) → AreWholeRoutines xs → (owner : ℕ) → AllByRecursion (IsListed P) (routines_list owner xs) → AllByRecursion (IsFound P) (blocks_inside xs) → AllByRecursion IsClosedBlock (blocks_inside xs)
       routines_closed NoRoutine whole owner blocks found = tt
       routines_closed (Also x xs) whole owner blocks found =
           every_join IsClosedBlock (blocks_in x) (blocks_inside xs)
-          (routine_closed x whole.0 owner (every_front IsListed (routine_list owner x) (routines_list owner xs) blocks) (every_front (IsFound P) (blocks_in x) (blocks_inside xs) found))
-          (routines_closed xs whole.1 owner (every_back IsListed (routine_list owner x) (routines_list owner xs) blocks) (every_back (IsFound P) (blocks_in x) (blocks_inside xs) found))
+          (routine_closed x whole.0 owner (every_front (IsListed P) (routine_list owner x) (routines_list owner xs) blocks) (every_front (IsFound P) (blocks_in x) (blocks_inside xs) found))
+          (routines_closed xs whole.1 owner (every_back (IsListed P) (routine_list owner x) (routines_list owner xs) blocks) (every_back (IsFound P) (blocks_in x) (blocks_inside xs) found))
 
   mutual
     pub routine_entries : (x : Routine) → IsWholeRoutine x → (owner : ℕ) → AllByRecursion (IsFound P) (blocks_in x) → AllByRecursion HasEntryListed (routine_list owner x)
     routine_entries (Block head inner body) whole owner found =
-        (subst (λ n. HasRow n head.name) (sym (ap body_entry found.0)) (entry_row body whole.0 head.name (leaving (head_form head) head.name) [] (every_back (IsFound P) (blocks_inside inner) (rows_of body head.name (leaving (head_form head) head.name) []) found.1)),
+        (subst (λ n. HasRow P n head.name) (sym (ap body_entry found.0)) (entry_row body whole.0 head.name (leaving (head_form head) head.name) [] (every_back (IsFound P) (blocks_inside inner) (rows_of body head.name (leaving (head_form head) head.name) []) found.1)),
         routines_entries inner whole.1 head.name (every_front (IsFound P) (blocks_inside inner) (rows_of body head.name (leaving (head_form head) head.name) []) found.1))
 
     pub routines_entries : (xs : Routines) → AreWholeRoutines xs → (owner : ℕ) → AllByRecursion (IsFound P) (blocks_inside xs) → AllByRecursion HasEntryListed (routines_list owner xs)
@@ -223,14 +184,7 @@ module _ (P : Table) where
       by None e h = absurd h
       by (Some f) e h = record { spot = s; leads = leads; form = f; has = e; part = h }
 
-  -- each label of a goto stands in its routine, and what is called is a routine: this is for the resolver to know
-  abbrev pub AreLabelled : Type 0
-  AreLabelled = (n : ℕ) (row : Row) (l : ℕ) → row_of P n ≡ Some row → has_way row.form.op (Label l) ≡ true → HasRow (label_gate (labels_in (routine_of P row.routine)) l) row.routine
-
-  abbrev pub AreDeclared : Type 0
-  AreDeclared = (n : ℕ) (row : Row) (c : Name) → row_of P n ≡ Some row → parts_call row.form.parts c.0 ≡ true → HasRoutine P c.0
-
-  pub rows_close : AllByRecursion IsClosedBlock P.rows → AllByRecursion HasEntryListed P.routines → AreLabelled → AreDeclared → IsClosed pascal (blocks_of P)
+  pub rows_close : AllByRecursion IsClosedBlock P.rows → AllByRecursion HasEntryListed P.routines → AreLabelled P → AreDeclared P → IsClosed pascal (blocks_of P)
   rows_close rows entries labels calls n f to is link = by (row_of P n) refl (routine_of P n) refl is
     where
       of_statement : (row : Row) → row_of P n ≡ Some row → (to : LinkTo) → has_link (StatementBlock row.form) to ≡ true → HasEnd pascal (blocks_of P) n to

@@ -4,9 +4,9 @@ use Rattle.core_tree.specs.Plain.{Expr, Operation, Exprs, NoMore, And, part_at, 
 use Rattle.core_tree.specs.Control.{machine_rows, core_routines}
 use Rattle.plain_machine.specs.Meaning.{IsClosed}
 use Rattle.std.specs.List.{AllByRecursion}
-use Rattle.plain_pascal.proofs.Stage.{HasProgram, depth}
-use Rattle.plain_pascal.proofs.Chains.{IsFound, program_chains}
-use Rattle.plain_pascal.proofs.Closed.{IsWholeRoutine, IsListed, IsClosedBlock, HasEntryListed, AreLabelled, AreDeclared, routine_closed, routine_entries, rows_close}
+use Rattle.plain_pascal.specs.Resolved.{IsResolved}
+use Rattle.plain_pascal.proofs.Chains.{program_chains}
+use Rattle.plain_pascal.proofs.Closed.{IsClosedBlock, HasEntryListed, routine_closed, routine_entries, rows_close}
 use Rattle.plain_pascal.proofs.Placed.{IsTable}
 use Rattle.plain_pascal.specs.Program.{Program as Table, Row, program_of, row_of, routine_in}
 use Rattle.plain_pascal.specs.State.{Node, OfStatement, OfExpr, PendingFrame, Control}
@@ -58,17 +58,6 @@ module _ (P : Table) (n : ℕ) (older : List Control) where
   pub frames_fit : (form : Form) (fs : List PendingFrame) → AreInside (OfStatement form) fs → frame_ticks P n older fs ≤ part_ticks form.parts + 1
   frames_fit form [] h = absurd h
   frames_fit form (f ∷ fs) h = sum_fits (OfStatement form) f fs (node_ticks P n older f.node (suc (length f.kept))) h (own_fits f.node (suc (length f.kept)))
-
--- what the check of a program gives: the statements that an operation needs are there, the program has the name 1, names
--- differ, a label of a goto stands in the routine, what is called is a routine, and no statement is out of measure
-pub record IsResolved (x : Routine) (m : ℕ) : Type 0 where
-  pub whole : IsWholeRoutine (program_of x) x
-  pub program : HasProgram (program_of x)
-  pub blocks_found : AllByRecursion (IsFound (program_of x)) (machine_rows x)
-  pub routines_found : AllByRecursion (IsListed (program_of x)) (core_routines x)
-  pub labels : AreLabelled (program_of x)
-  pub declared : AreDeclared (program_of x)
-  pub small : (n : ℕ) (row : Row) → row_of (program_of x) n ≡ Some row → (part_ticks row.form.parts + 1 ≤ steps_limit) × (depth (program_of x) row.continuation + 1 ≤ m)
 
 -- the program declares itself
 all_closed : (x : Routine) (m : ℕ) → IsResolved x m → AllByRecursion (IsClosedBlock (program_of x)) (machine_rows x)

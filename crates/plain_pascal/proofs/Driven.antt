@@ -7,6 +7,8 @@ use Rattle.plain_machine.specs.Links.{Program}
 use Rattle.plain_machine.specs.Meaning.{IsClosed}
 use Rattle.plain_machine.specs.Plain.{State, unless, sum_unless, next, settle}
 use Rattle.plain_machine.specs.Pauses.{ends_run, drive, go_on, gates_on}
+use Rattle.plain_pascal.specs.Resolved.{HasProgram, HasRoutine, depth}
+use Rattle.plain_pascal.specs.Standing.{IsTold}
 use Rattle.plain_pascal.specs.Program.{Program as Table, Row, row_of}
 use Rattle.plain_pascal.specs.State.{Status, NotStarted, Halted, Ended as IsEnded, Failed as HasFailed, Value, Node, OfStatement, OfExpr, PendingFrame, Data, Control, State as PascalState}
 use Rattle.plain_pascal.specs.Run.{steps_limit, passed, Marks, Stopped, InError, next_gate, unless_held, with_event, event, over_by, driven}
@@ -16,7 +18,7 @@ use Rattle.plain_pascal.specs.Blocks.{Path, Store, store, AreInside, IsPath, pas
 use Rattle.core_tree.specs.Plain.{BlockForm, StatementBlock}
 use Rattle.plain_pascal.specs.Stages.{stage_of}
 use Rattle.plain_pascal.specs.Marked.{pause_by, is_full, pauses_of, gate_end, ending_of}
-use Rattle.plain_pascal.proofs.Stage.{HasProgram, HasRoutine, IsChain, depth, statement_stage, return_stage}
+use Rattle.plain_pascal.proofs.Stage.{IsChain, statement_stage, return_stage}
 
 module _ (P : Table) (m : ℕ) where
   abbrev B : Program BlockForm
@@ -28,7 +30,7 @@ module _ (P : Table) (m : ℕ) where
     pub found : row_of P n ≡ Some row
     pub chain : IsChain P row.continuation
     pub few : part_ticks row.form.parts + 1 ≤ steps_limit
-    pub near : depth P row.continuation + 1 ≤ m
+    pub near : depth row.continuation + 1 ≤ m
 
   -- a statement that waits for its call
   pub record IsWaiting (c : Control) : Type 0 where
@@ -42,11 +44,6 @@ module _ (P : Table) (m : ℕ) where
 
   abbrev pub AtGate : ℕ → List Control → Type 0
   AtGate n older = AtStatement n ⊎ AtReturn n older
-
-  -- where frames stay, the stack had no room
-  abbrev pub IsTold : ℕ → List PendingFrame → Type 0
-  IsTold e [] = Unit {0}
-  IsTold e (f ∷ fs) = e ≡ 8
 
   abbrev pub PlacedIn : Status → List Control → Type 0
   PlacedIn Halted (c ∷ older) = (c.frames ≡ []) × AtGate c.statement older

@@ -5,6 +5,8 @@ use Rattle.plain_machine.specs.Links.{First}
 use Rattle.plain_machine.specs.Meaning.{At}
 use Rattle.plain_machine.specs.Plain.{settle, stretch_of, begun_at}
 use Rattle.plain_machine.specs.Pauses.{go_on, drive, drive_from}
+use Rattle.plain_pascal.specs.Resolved.{HasRow}
+use Rattle.plain_pascal.specs.Standing.{Stands}
 use Rattle.plain_pascal.specs.Program.{Program as Table, routine_of}
 use Rattle.plain_pascal.specs.State.{Status, NotStarted, Halted, Ended, Failed, Data, Control, State as PascalState}
 use Rattle.plain_pascal.specs.Run.{Marks, is_full, unless_held, with_event, event, next_gate, run_of, driven, passed, started, entry_in}
@@ -13,10 +15,10 @@ use Rattle.core_tree.specs.Plain.{ProgramBlock}
 use Rattle.plain_pascal.specs.Stages.{stage_of}
 use Rattle.plain_pascal.specs.Marked.{pauses_of}
 use Rattle.plain_pascal.proofs.Stage.{IsSpot, spot_is, gate_stage, program_block}
-use Rattle.plain_pascal.proofs.Closed.{HasRow, HasEntry}
+use Rattle.plain_pascal.proofs.Closed.{HasEntry}
 use Rattle.plain_pascal.proofs.Named.{row_named, routine_found}
 use Rattle.plain_pascal.proofs.Driven.{placed_passes}
-use Rattle.plain_pascal.proofs.Placed.{IsTable, Stands, stands_placed, stands_kept, run_stage}
+use Rattle.plain_pascal.proofs.Placed.{IsTable, stands_placed, stands_kept, run_stage}
 
 -- a run begins without output
 abbrev pub cleared : Data → Data
@@ -43,7 +45,7 @@ module _ (P : Table) (m : ℕ) (T : IsTable P m) where
       subst (λ n. HasRow P n 1) (sym (ap entry_in T.program.found))
       (subst (λ r. HasRow P T.program.row.entry r) (row_named P 1 T.program.row T.program.found) (routine_found P (HasEntry P) 1 T.program.row T.entries T.program.found))
 
-  start_stands : (d : Data) → Stands P m T (started P (fresh d))
+  start_stands : (d : Data) → Stands P (started P (fresh d))
   start_stands d = (refl, (1, (inl entry_row, refl)))
 
   -- the first run of a program
@@ -51,7 +53,7 @@ module _ (P : Table) (m : ℕ) (T : IsTable P m) where
   first_run marks k d = run_stage P m T marks k (started P (fresh (cleared d))) (start_stands (cleared d)) ∙ ap (λ x. go_on pascal (blocks_of P) (suc m) (pauses_of marks) k x) (start_stage (cleared d))
 
   -- a run that goes on
-  pub next_run : (marks : Marks) (k : ℕ) (c : Control) (older : List Control) (d : Data) → Stands P m T (record { status = Halted; control = c ∷ older; data_now = cleared d })
+  pub next_run : (marks : Marks) (k : ℕ) (c : Control) (older : List Control) (d : Data) → Stands P (record { status = Halted; control = c ∷ older; data_now = cleared d })
       → stage_of (run_of P marks (suc k) (record { status = Halted; control = c ∷ older; data_now = d })).last
       ≡ drive pascal (blocks_of P) (suc m) (pauses_of marks) (suc k) (stage_of (record { status = Halted; control = c ∷ older; data_now = cleared d }))
   next_run marks k c older d h =
@@ -63,7 +65,7 @@ module _ (P : Table) (m : ℕ) (T : IsTable P m) where
 
   -- the state to which a run comes stands
   module _ (marks : Marks) where
-    stands_by : (k : ℕ) (st : Status) (control : List Control) (d : Data) → Stands P m T (record { status = st; control = control; data_now = d }) → Stands P m T (driven k P marks (record { status = st; control = control; data_now = d })).last
+    stands_by : (k : ℕ) (st : Status) (control : List Control) (d : Data) → Stands P (record { status = st; control = control; data_now = d }) → Stands P (driven k P marks (record { status = st; control = control; data_now = d })).last
     unfolding driven
     stands_by k NotStarted control d h = absurd h
     stands_by k Halted [] d h = absurd h
@@ -73,7 +75,7 @@ module _ (P : Table) (m : ℕ) (T : IsTable P m) where
         s : PascalState
         s = record { status = Halted; control = c ∷ older; data_now = d }
 
-        by : (b f : Bool) → Stands P m T (driven k P marks (passed P s)).last → Stands P m T (unless_held b f s (λ u. with_event (event (marks.traces (next_gate u)) (next_gate u)) (driven k P marks (passed P u)))).last
+        by : (b f : Bool) → Stands P (driven k P marks (passed P s)).last → Stands P (unless_held b f s (λ u. with_event (event (marks.traces (next_gate u)) (next_gate u)) (driven k P marks (passed P u)))).last
         by true f rest = h
         by false true rest = h
         by false false rest = rest
@@ -82,5 +84,5 @@ module _ (P : Table) (m : ℕ) (T : IsTable P m) where
     stands_by zero (Failed e n) control d h = h
     stands_by (suc k) (Failed e n) control d h = h
 
-    pub run_stands : (k : ℕ) (s : PascalState) → Stands P m T s → Stands P m T (driven k P marks s).last
+    pub run_stands : (k : ℕ) (s : PascalState) → Stands P s → Stands P (driven k P marks s).last
     run_stands k s h = stands_by k s.status s.control s.data_now h

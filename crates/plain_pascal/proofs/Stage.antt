@@ -9,6 +9,7 @@ use Rattle.core_tree.specs.declared.form.ForLoop.{ForLoop}
 use Rattle.core_tree.specs.declared.form.StatementOp.TheVariants as stmt
 use Rattle.core_tree.specs.declared.form.RoutineForm.{RoutineForm}
 use Rattle.core_tree.specs.Plain.{Operation, Exprs, part_at, Form, BlockForm, ProgramBlock, RoutineBlock, StatementBlock}
+use Rattle.plain_pascal.specs.Resolved.{HasProgram, HasRoutine, depth}
 use Rattle.plain_pascal.specs.Program.{Program as Table, Row, RoutineRow, row_of, routine_of}
 use Rattle.core_tree.specs.Control.{Continuation, ToGate, ToStep, ToEnd, ToLeave, ToFinish}
 use Rattle.plain_pascal.specs.State.{Value, Node, OfStatement, OfExpr, PendingFrame, Data, Control}
@@ -28,22 +29,6 @@ use Rattle.plain_pascal.proofs.Ends.{Fits, begun_fits, resumed_fits, no_statemen
 module _ (P : Table) where
   abbrev B : Program BlockForm
   B = blocks_of P
-
-  -- the program has a block, and is no statement
-  pub record HasProgram : Type 0 where
-    pub row : RoutineRow
-    pub found : routine_of P 1 ≡ Some row
-    pub form : row.form ≡ None
-    pub no_statement : row_of P 1 ≡ None
-
-  -- a routine has a block
-  pub record HasRoutine (n : ℕ) : Type 0 where
-    pub row : RoutineRow
-    pub found : routine_of P n ≡ Some row
-    pub name : row.name ≡ n
-    pub form : RoutineForm
-    pub is_form : row.form ≡ Some form
-    pub no_statement : row_of P n ≡ None
 
   -- the steps and ends on the way are those of statements of the table
   pub record IsStep (n : ℕ) (form : Form) (body : ℕ) (otherwise : Continuation) : Type 0 where
@@ -67,13 +52,6 @@ module _ (P : Table) where
   IsChain ToFinish = Unit {0}
   IsChain (ToStep n form body otherwise) = IsStep n form body otherwise × IsChain otherwise
   IsChain (ToEnd n otherwise) = IsEnd n otherwise × IsChain otherwise
-
-  abbrev pub depth : Continuation → ℕ
-  depth (ToGate n) = 0
-  depth (ToLeave n) = 0
-  depth ToFinish = 1
-  depth (ToStep n form body otherwise) = 1 + depth otherwise
-  depth (ToEnd n otherwise) = 1 + depth otherwise
 
   -- ---- rests
 
@@ -101,7 +79,7 @@ module _ (P : Table) where
 
   -- a call has its routine
   abbrev pub IsCalled : End → Type 0
-  IsCalled (Waits c vs fs d) = HasRoutine c.routine.0
+  IsCalled (Waits c vs fs d) = HasRoutine P c.routine.0
   IsCalled other = Unit {0}
 
   pub end_rests : (n : ℕ) (older : List Control) (row : Row) (e : End) → IsCalled e → rests_at (end_told P n older row e) ≡ true
@@ -132,14 +110,14 @@ module _ (P : Table) where
       ap (λ x. begun_in pascal B x s d older) e ∙ ap (λ b. goes_if b (record { name = s.name; start = At s.part; data_now = arrive f s.part d; older = older })) h
 
   -- what is called has a routine's block
-  has_routine : (n : ℕ) (c : Callee) → HasEnd pascal B n (Routine c.routine) → B.link_end n (Routine c.routine) ≡ routine_end c.routine.0 (routine_of P c.routine.0) → HasRoutine c.routine.0
+  has_routine : (n : ℕ) (c : Callee) → HasEnd pascal B n (Routine c.routine) → B.link_end n (Routine c.routine) ≡ routine_end c.routine.0 (routine_of P c.routine.0) → HasRoutine P c.routine.0
   has_routine n c h e = by (routine_of P c.routine.0) refl (sym e ∙ h.leads)
     where
       no_row : (x : Option Row) → row_of P c.routine.0 ≡ x → HasPartIn (block_in x (routine_of P c.routine.0)) First → row_of P c.routine.0 ≡ None
       no_row None is part = is
       no_row (Some row) is part = absurd (grind (arith, part))
 
-      of_form : (r : RoutineRow) → routine_of P c.routine.0 ≡ Some r → (f : Option RoutineForm) → r.form ≡ f → form_end c.routine.0 f ≡ Some h.spot → HasRoutine c.routine.0
+      of_form : (r : RoutineRow) → routine_of P c.routine.0 ≡ Some r → (f : Option RoutineForm) → r.form ≡ f → form_end c.routine.0 f ≡ Some h.spot → HasRoutine P c.routine.0
       of_form r found None is leads = absurd (grind (arith, leads))
       of_form r found (Some f) is leads = record {
         row = r;
@@ -150,7 +128,7 @@ module _ (P : Table) where
         no_statement = no_row (row_of P c.routine.0) refl (spot_is n (Routine c.routine) (record { name = c.routine.0; part = First }) h (h.leads ∙ sym leads));
       }
 
-      by : (x : Option RoutineRow) → routine_of P c.routine.0 ≡ x → routine_end c.routine.0 x ≡ Some h.spot → HasRoutine c.routine.0
+      by : (x : Option RoutineRow) → routine_of P c.routine.0 ≡ x → routine_end c.routine.0 x ≡ Some h.spot → HasRoutine P c.routine.0
       by None is leads = absurd (grind (arith, leads))
       by (Some r) is leads = of_form r is r.form refl leads
 
@@ -174,7 +152,7 @@ module _ (P : Table) where
   pub gate_stage : (m n : ℕ) (older : List Control) (d : Data) → IsSpot (gate n) → stage_of (at_gate P n older d) ≡ settle pascal B m (begun_at pascal B (Some (gate n)) (store d) (map pending older))
   gate_stage m n older d h = sym (settle_rests m (stage_of (at_gate P n older d)) refl) ∙ ap (settle pascal B m) (gate_opens n older d h)
 
-  module _ (program : HasProgram) (closed : IsClosed pascal B) where
+  module _ (program : HasProgram P) (closed : IsClosed pascal B) where
     pub program_block : B.form 1 ≡ Some ProgramBlock
     program_block = ap (λ r. block_in r (routine_of P 1)) program.no_statement ∙ ap (λ r. block_in None r) program.found ∙ ap (λ f. Some (routine_block f)) program.form
 
@@ -251,7 +229,7 @@ module _ (P : Table) where
       leads : (to : LinkTo) (s : Spot) → has_link (StatementBlock row.form) to ≡ true → way_end P (Some row) n to ≡ Some s → IsSpot s
       leads to s h e = spot_is n to s (closed n (StatementBlock row.form) to form_is h) (way to ∙ e)
 
-      called_by : (c : Callee) (fs : List PendingFrame) → IsPath (StatementBlock row.form) fs → callee fs ≡ Routine c.routine → HasRoutine c.routine.0
+      called_by : (c : Callee) (fs : List PendingFrame) → IsPath (StatementBlock row.form) fs → callee fs ≡ Routine c.routine → HasRoutine P c.routine.0
       called_by c fs path e =
           has_routine n c (closed n (StatementBlock row.form) (Routine c.routine) form_is (ap (has_link (StatementBlock row.form)) (sym e) ∙ path_link row.form fs path)) (way (Routine c.routine))
 
@@ -261,7 +239,7 @@ module _ (P : Table) where
       is_called (Broken e d) h = tt
       is_called (Waits c vs fs d) h = called_by c fs h.0 h.1
 
-      called_stage : (c : Callee) (vs : List Value) (fs : List PendingFrame) (d : Data) (older : List Control) → IsPath (StatementBlock row.form) fs → callee fs ≡ Routine c.routine → HasRoutine c.routine.0 → (m : ℕ)
+      called_stage : (c : Callee) (vs : List Value) (fs : List PendingFrame) (d : Data) (older : List Control) → IsPath (StatementBlock row.form) fs → callee fs ≡ Routine c.routine → HasRoutine P c.routine.0 → (m : ℕ)
           → stage_of (called P c (routine_of P c.routine.0) vs n fs older d) ≡ settle pascal B (suc m) (moved pascal B n (map pending older) (exit_by (Waits c vs fs d)))
       called_stage c vs fs d older path is h m =
           ap (λ r. stage_of (called P c r vs n fs older d)) h.found
@@ -344,7 +322,7 @@ module _ (P : Table) where
           operation (OfExpr x) e = tt
 
       -- a routine, from its gate to the gate behind its call
-      pub return_stage : (r : ℕ) (fs : List PendingFrame) (older : List Control) (d : Data) (m : ℕ) → HasRoutine r
+      pub return_stage : (r : ℕ) (fs : List PendingFrame) (older : List Control) (d : Data) (m : ℕ) → HasRoutine P r
           → (call : Callee) (parts : Exprs) (kept : List Value) → AreInside (OfStatement row.form) fs → frame_ticks P n older fs ≤ steps_limit → most_after row ≤ m
           → stage_of (settled steps_limit P (small_step P (going r [] (record { statement = n; frames = record { node = OfExpr (Operation (op.Call call) parts); kept = kept } ∷ fs } ∷ older) d)))
           ≡ settle pascal B (suc m) (next pascal B (stage_of (going r [] (record { statement = n; frames = record { node = OfExpr (Operation (op.Call call) parts); kept = kept } ∷ fs } ∷ older) d)))

@@ -17,3 +17,5 @@ pub mod Valid
 pub mod Blocks
 pub mod Stages
 pub mod Marked
+pub mod Resolved
+pub mod Standing
