@@ -126,11 +126,12 @@ module _ (P : Table) where
 
   mutual
     pub program_chains : (x : Routine) → AllByRecursion (IsFound P) (blocks_in x) → AllByRecursion IsChained (blocks_in x)
-    program_chains (Block head inner body) found =
-        (no_row IsChainedRow head.name (head_form head) body,
-        every_join IsChained (blocks_inside inner) (rows_of body head.name (leaving (head_form head) head.name) [])
-        (routines_chains inner (every_front (IsFound P) (blocks_inside inner) (rows_of body head.name (leaving (head_form head) head.name) []) found.1))
-        (statement_chains body head.name (leaving (head_form head) head.name) [] (every_back (IsFound P) (blocks_inside inner) (rows_of body head.name (leaving (head_form head) head.name) []) found.1) (leaving_chain (head_form head) head.name)))
+    program_chains (Block head inner body) found = (
+      no_row IsChainedRow head.name (head_form head) body,
+      every_join IsChained (blocks_inside inner) (rows_of body head.name (leaving (head_form head) head.name) [])
+          (routines_chains inner (every_front (IsFound P) (blocks_inside inner) (rows_of body head.name (leaving (head_form head) head.name) []) found.1))
+          (statement_chains body head.name (leaving (head_form head) head.name) [] (every_back (IsFound P) (blocks_inside inner) (rows_of body head.name (leaving (head_form head) head.name) []) found.1) (leaving_chain (head_form head) head.name)),
+    )
 
     pub routines_chains : (xs : Routines) → AllByRecursion (IsFound P) (blocks_inside xs) → AllByRecursion IsChained (blocks_inside xs)
     routines_chains NoRoutine found = tt

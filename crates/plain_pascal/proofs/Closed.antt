@@ -134,9 +134,10 @@ module _ (P : Table) where
   -- what comes after its body
   leaving_spot : HasProgram P → (owner : ℕ) (head : Head) (body : Statement) (form : BlockForm) → head_form head ≡ form → routine_of P head.name ≡ Some (routine_in P.rows (listed owner head body)) → row_of P head.name ≡ None → Behind (leaving form head.name) head.name
   leaving_spot program owner head body (RoutineBlock f) is found bare =
-      let form : form_in (head_form head) ≡ Some f = ap form_in is in
-      (subst (λ y. HasPartIn P y Gate) (sym (ap (λ r. block_in r (routine_of P head.name)) bare ∙ ap (λ r. block_in None r) found ∙ ap (λ f. Some (routine_block f)) form)) refl,
-      inr (refl, record { row = routine_in P.rows (listed owner head body); found = found; name = refl; form = f; is_form = form; no_statement = bare }))
+      let form : form_in (head_form head) ≡ Some f = ap form_in is in (
+        subst (λ y. HasPartIn P y Gate) (sym (ap (λ r. block_in r (routine_of P head.name)) bare ∙ ap (λ r. block_in None r) found ∙ ap (λ f. Some (routine_block f)) form)) refl,
+        inr (refl, record { row = routine_in P.rows (listed owner head body); found = found; name = refl; form = f; is_form = form; no_statement = bare }),
+      )
   leaving_spot program owner head body ProgramBlock is found bare =
       (subst (λ y. HasPartIn P y EndPart) (sym (ap (λ r. block_in r (routine_of P 1)) program.no_statement ∙ ap (λ r. block_in None r) program.found ∙ ap (λ f. Some (routine_block f)) program.form)) refl, tt)
   leaving_spot program owner head body (StatementBlock f) is found bare =
@@ -151,12 +152,13 @@ module _ (P : Table) where
   module _ (program : HasProgram P) where
     mutual
       pub routine_closed : (x : Routine) → IsWholeRoutine x → (owner : ℕ) → AllByRecursion (IsListed P) (routine_list owner x) → AllByRecursion (IsFound P) (blocks_in x) → AllByRecursion IsClosedBlock (blocks_in x)
-      routine_closed (Block head inner body) whole owner blocks found =
-          (no_row P IsClosedRow head.name (head_form head) body,
-          every_join IsClosedBlock (blocks_inside inner) (rows_of body head.name (leaving (head_form head) head.name) [])
-          (routines_closed inner whole.1 head.name blocks.1 (every_front (IsFound P) (blocks_inside inner) (rows_of body head.name (leaving (head_form head) head.name) []) found.1))
-          (statement_closed body whole.0 head.name (leaving (head_form head) head.name) [] (every_back (IsFound P) (blocks_inside inner) (rows_of body head.name (leaving (head_form head) head.name) []) found.1)
-          (leaving_spot program owner head body (head_form head) refl (ap (option_map (routine_in P.rows)) blocks.0) (no_statement head.name (head_form head) body found.0))))
+      routine_closed (Block head inner body) whole owner blocks found = (
+        no_row P IsClosedRow head.name (head_form head) body,
+        every_join IsClosedBlock (blocks_inside inner) (rows_of body head.name (leaving (head_form head) head.name) [])
+            (routines_closed inner whole.1 head.name blocks.1 (every_front (IsFound P) (blocks_inside inner) (rows_of body head.name (leaving (head_form head) head.name) []) found.1))
+            (statement_closed body whole.0 head.name (leaving (head_form head) head.name) [] (every_back (IsFound P) (blocks_inside inner) (rows_of body head.name (leaving (head_form head) head.name) []) found.1)
+            (leaving_spot program owner head body (head_form head) refl (ap (option_map (routine_in P.rows)) blocks.0) (no_statement head.name (head_form head) body found.0))),
+      )
 
       pub routines_closed : (xs : Routines) → AreWholeRoutines xs → (owner : ℕ) → AllByRecursion (IsListed P) (routines_list owner xs) → AllByRecursion (IsFound P) (blocks_inside xs) → AllByRecursion IsClosedBlock (blocks_inside xs)
       routines_closed NoRoutine whole owner blocks found = tt
@@ -167,9 +169,10 @@ module _ (P : Table) where
 
   mutual
     pub routine_entries : (x : Routine) → IsWholeRoutine x → (owner : ℕ) → AllByRecursion (IsFound P) (blocks_in x) → AllByRecursion HasEntryListed (routine_list owner x)
-    routine_entries (Block head inner body) whole owner found =
-        (subst (λ n. HasRow P n head.name) (sym (ap body_entry found.0)) (entry_row body whole.0 head.name (leaving (head_form head) head.name) [] (every_back (IsFound P) (blocks_inside inner) (rows_of body head.name (leaving (head_form head) head.name) []) found.1)),
-        routines_entries inner whole.1 head.name (every_front (IsFound P) (blocks_inside inner) (rows_of body head.name (leaving (head_form head) head.name) []) found.1))
+    routine_entries (Block head inner body) whole owner found = (
+      subst (λ n. HasRow P n head.name) (sym (ap body_entry found.0)) (entry_row body whole.0 head.name (leaving (head_form head) head.name) [] (every_back (IsFound P) (blocks_inside inner) (rows_of body head.name (leaving (head_form head) head.name) []) found.1)),
+      routines_entries inner whole.1 head.name (every_front (IsFound P) (blocks_inside inner) (rows_of body head.name (leaving (head_form head) head.name) []) found.1),
+    )
 
     pub routines_entries : (xs : Routines) → AreWholeRoutines xs → (owner : ℕ) → AllByRecursion (IsFound P) (blocks_inside xs) → AllByRecursion HasEntryListed (routines_list owner xs)
     routines_entries NoRoutine whole owner found = tt
@@ -214,4 +217,3 @@ module _ (P : Table) where
       by (Some row) e r er same = let g : f ≡ StatementBlock row.form = cc same in of_statement row e to (subst (λ y. has_link y to ≡ true) g link)
       by None e (Some r) er same = let g : f ≡ routine_block r.form = cc same in of_routine r e er r.form to (subst (λ y. has_link y to ≡ true) g link)
       by None e None er same = absurd (grind (arith, same))
-

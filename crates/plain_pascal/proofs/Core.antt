@@ -76,7 +76,7 @@ resolved_table x m c = record {
   labels = c.labels;
   small = c.small;
   paths = λ n row fs found inside older.
-    (let few : part_ticks row.form.parts + 1 ≤ steps_limit = (c.small n row found).0 in
-    let h : frame_ticks (program_of x) n older fs ≤ part_ticks row.form.parts + 1 = frames_fit (program_of x) n older row.form fs inside in
-    omega (arith, few, h));
+      (let few : part_ticks row.form.parts + 1 ≤ steps_limit = (c.small n row found).0 in
+      let h : frame_ticks (program_of x) n older fs ≤ part_ticks row.form.parts + 1 = frames_fit (program_of x) n older row.form fs inside in
+      omega (arith, few, h));
 }

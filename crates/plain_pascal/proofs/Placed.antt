@@ -61,8 +61,10 @@ module _ (P : Table) (m : ℕ) (T : IsTable P m) where
   gate_placed n r (inl h) older w = inl (at_statement n r h)
   gate_placed n r (inr h) [] w = absurd (no_program r h.1 w)
   gate_placed n r (inr h) (c ∷ older) w =
-      inr (subst (λ k. HasRoutine P k) (sym h.0) h.1,
-      record { at = at_statement c.statement w.0 w.1.0; path = w.1.1.0; ticks = T.paths c.statement w.1.0.row c.frames w.1.0.found w.1.1.0.0 })
+      inr (
+        subst (λ k. HasRoutine P k) (sym h.0) h.1,
+        record { at = at_statement c.statement w.0 w.1.0; path = w.1.1.0; ticks = T.paths c.statement w.1.0.row c.frames w.1.0.found w.1.1.0.0 },
+      )
 
   placed_in : (st : Status) (control : List Control) → StandsIn P st control → PlacedIn P m st control
   placed_in NotStarted control h = absurd h

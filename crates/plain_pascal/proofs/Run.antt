@@ -9,7 +9,7 @@ use Rattle.plain_pascal.specs.Resolved.{HasRow}
 use Rattle.plain_pascal.specs.Standing.{Stands}
 use Rattle.plain_pascal.specs.Program.{Program as Table, routine_of}
 use Rattle.plain_pascal.specs.State.{Status, NotStarted, Halted, Ended, Failed, Data, Control, State as PascalState}
-use Rattle.plain_pascal.specs.Run.{Marks, is_full, unless_held, with_event, event, next_gate, run_of, driven, passed, started, entry_in}
+use Rattle.plain_pascal.specs.Run.{Marks, is_full, unless_held, with_event, event, next_gate, run_of, driven, passed, started, entry_in, cleared, fresh}
 use Rattle.plain_pascal.specs.Blocks.{store, program_begun, gate, way_end, pascal, blocks_of}
 use Rattle.core_tree.specs.Plain.{ProgramBlock}
 use Rattle.plain_pascal.specs.Stages.{stage_of}
@@ -20,14 +20,7 @@ use Rattle.plain_pascal.proofs.Named.{row_named, routine_found}
 use Rattle.plain_pascal.proofs.Driven.{placed_passes}
 use Rattle.plain_pascal.proofs.Placed.{IsTable, stands_placed, stands_kept, run_stage}
 
--- a run begins without output
-abbrev pub cleared : Data → Data
-cleared d = record d { output = []; drained = 0 }
-
 module _ (P : Table) (m : ℕ) (T : IsTable P m) where
-  abbrev fresh : Data → PascalState
-  fresh d = record { status = NotStarted; control = []; data_now = d }
-
   entry_end : (blocks_of P).link_end 1 (Child 0) ≡ Some (gate (entry_in (routine_of P 1)))
   entry_end = ap (λ r. way_end P r 1 (Child 0)) T.program.no_statement
 
@@ -45,7 +38,7 @@ module _ (P : Table) (m : ℕ) (T : IsTable P m) where
       subst (λ n. HasRow P n 1) (sym (ap entry_in T.program.found))
       (subst (λ r. HasRow P T.program.row.entry r) (row_named P 1 T.program.row T.program.found) (routine_found P (HasEntry P) 1 T.program.row T.entries T.program.found))
 
-  start_stands : (d : Data) → Stands P (started P (fresh d))
+  pub start_stands : (d : Data) → Stands P (started P (fresh d))
   start_stands d = (refl, (1, (inl entry_row, refl)))
 
   -- the first run of a program

@@ -19,3 +19,4 @@ pub mod Stages
 pub mod Marked
 pub mod Resolved
 pub mod Standing
+pub mod Laws

@@ -1,7 +1,7 @@
 -- Runs of the plain machine: gates are passed, statement by statement.
 use Rattle.std.specs.Prelude.{ℕ, zero, suc, ◌-◌, Bool, true, false, nat_le, List, [], ◌∷◌, ◌++◌, length, Option, Some, None}
 use Rattle.plain_pascal.specs.Program.{Program, RoutineRow, routine_of}
-use Rattle.plain_pascal.specs.State.{Status, NotStarted, Halted, Ended, Failed, PendingFrame, Control, State}
+use Rattle.plain_pascal.specs.State.{Status, NotStarted, Halted, Ended, Failed, PendingFrame, Control, Data, State}
 use Rattle.plain_pascal.specs.Step.{small_step, at_gate}
 
 abbrev pub no_frames : List PendingFrame → Bool
@@ -112,9 +112,17 @@ run_by NotStarted P marks k s = driven k P marks (started P s)
 run_by Halted P marks k s = with_event (event (marks.traces (next_gate s)) (next_gate s)) (driven (k - 1) P marks (passed P s))
 run_by other P marks k s = unless_over (over_by s.status) s (λ t. ends AtEnd t)
 
--- a run of so many gates, which begins with no output; the gate before which it is halted is passed first
+-- a run begins without output
+abbrev pub cleared : Data → Data
+cleared d = record d { output = []; drained = 0 }
+
+-- a run of so many gates; the gate before which it is halted is passed first
 abbrev pub run_of : Program → Marks → ℕ → State → RunResult
-run_of P marks k s = run_by s.status P marks k (record s { data_now = record s.data_now { output = []; drained = 0 } })
+run_of P marks k s = run_by s.status P marks k (record s { data_now = cleared s.data_now })
+
+-- a program that was not started, with these data
+abbrev pub fresh : Data → State
+fresh d = record { status = NotStarted; control = []; data_now = d }
 
 -- what a run comes to that goes on, with so many gates more, where it was stopped
 abbrev pub continued_by : Ending → ℕ → Program → Marks → RunResult → RunResult
