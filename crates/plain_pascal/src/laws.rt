@@ -3,7 +3,7 @@ ghost use Rattle.plain_pascal.specs.Laws.{FirstRunsAreStretches, FirstRunsRest, 
 
 /// A run of `j + k` gates is one of `j` gates, and then one of `k` gates where it was stopped.
 pub fn runs_split()
-    ensures law { RunsSplit }
+    ensures { RunsSplit }
 {}
 
 /// A run from a state in order comes to one, at a gate, at the end or in an error; so does the first run of a program.
