@@ -4,13 +4,18 @@ use Rattle.std.specs.Prelude.{slice_get, set, drop, ◌⊎◌}
 use Rattle.std.proofs.Common.{inl, inr}
 use Rattle.plain_pascal.specs.Program.{Kind, NoKind, WordKind, SetKind, PlaceKind, Row, Program}
 use Rattle.plain_pascal.specs.State.{Place, Global, Local, Heap, Literal, Value, Word, Members, At, NoValue, Activation, Data}
-use Rattle.plain_pascal.specs.Memory.{from_activation, words_of, static_link_of, linked_up, with_local, with_word}
+use Rattle.plain_pascal.specs.Memory.{from_activation, words_of, static_link_of, linked_up, moved, word_at, with_local, with_word, with_words, copied}
 use Rattle.plain_pascal.specs.Step.{stack_charges}
 use Rattle.plain_pascal.specs.Operations.{newest_holds}
-use Rattle.plain_pascal.specs.Typed.{slots_of}
-use Rattle.plain_pascal.specs.Valid.{IsWord, IsOf, AreOf, LiesIn}
+use Rattle.plain_pascal.specs.Typed.{slots_of, stored_kind, stored_words}
+use Rattle.plain_pascal.specs.Statements.{assigned}
+use Rattle.core_tree.specs.declared.op.Storage.{Storage}
+use Rattle.core_tree.specs.declared.op.Storage.TheVariants as storage
+use Rattle.std.specs.List.{AllByRecursion}
+use Rattle.plain_pascal.specs.Valid.{IsWord, IsOf, AreOf, LiesIn, IsData}
 use Rattle.plain_pascal.proofs.Members.{set_words, set_long}
-use Rattle.plain_pascal.proofs.Places.{Scoped}
+use Rattle.plain_pascal.proofs.Places.{Scoped, moved_lies, shorter_lies}
+use Rattle.plain_pascal.proofs.Sound.{place_word}
 use Rattle.plain_pascal.proofs.Values.{Sees}
 
 -- the same value, or another word
@@ -169,27 +174,56 @@ same_charges [] (b ∷ ys) h = absurd h
 same_charges (a ∷ xs) [] h = absurd h
 same_charges (a ∷ xs) (b ∷ ys) h = let long : length a.words ≡ length b.words = same_long a.words b.words h.0.words in let more : stack_charges xs ≡ stack_charges ys = same_charges xs ys h.1 in omega (arith, long, more)
 
--- what an expression sees stays in order
-pub sees_stored : (P : Program) (d : Data) (newest : ℕ) (row : Row) (p : Place) (y : ℕ) → Sees P d newest row → LiesIn d.activations newest p 1 → IsWord y → Sees P (with_word d p y) newest row
-sees_stored P d newest row (Literal text) y s h small = s
-sees_stored P d newest row (Global w) y s h small = record {
-  data_good = record { globals_long = set_long d.globals w y ∙ s.data_good.globals_long; globals_words = set_words d.globals w y s.data_good.globals_words small; heap_long = s.data_good.heap_long; heap_words = s.data_good.heap_words; used = s.data_good.used; cells = s.data_good.cells; stack = s.data_good.stack; input = s.data_good.input };
-  scoped = s.scoped;
-  found = s.found;
-  held = s.held;
+-- ---- one change after another
+
+value_trans : (u v w : Value) → AlikeValue u v → AlikeValue v w → AlikeValue u w
+value_trans u v w (inl same) k = subst (λ x. AlikeValue x w) (sym same) k
+value_trans u v w (inr h) (inl same) = inr (h.0, h.1, h.2, sym same ∙ h.3, h.4)
+value_trans u v w (inr h) (inr k) = inr (h.0, k.1, h.2, k.3, k.4)
+
+words_trans : (us vs ws : List Value) → AlikeWords us vs → AlikeWords vs ws → AlikeWords us ws
+words_trans [] [] ws h k = k
+words_trans [] (v ∷ vs) ws h k = absurd h
+words_trans (u ∷ us) [] ws h k = absurd h
+words_trans (u ∷ us) (v ∷ vs) [] h k = absurd k
+words_trans (u ∷ us) (v ∷ vs) (w ∷ ws) h k = (value_trans u v w h.0 k.0, words_trans us vs ws h.1 k.1)
+
+pub all_trans : (xs ys zs : List Activation) → AllAlike xs ys → AllAlike ys zs → AllAlike xs zs
+all_trans [] [] zs h k = k
+all_trans [] (y ∷ ys) zs h k = absurd h
+all_trans (x ∷ xs) [] zs h k = absurd h
+all_trans (x ∷ xs) (y ∷ ys) [] h k = absurd k
+all_trans (x ∷ xs) (y ∷ ys) (z ∷ zs) h k = (
+  record { routine = h.0.routine ∙ k.0.routine; link = h.0.link ∙ k.0.link; holds = h.0.holds ∙ k.0.holds; words = words_trans x.words y.words z.words h.0.words k.0.words },
+  all_trans xs ys zs h.1 k.1,
+)
+
+-- data in order, in which no kind of any value and no place is another than before
+pub record IsAfter (d e : Data) : Type 0 where
+  pub good : IsData e
+  pub alike : AllAlike d.activations e.activations
+
+pub nothing_after : (d : Data) → IsData d → IsAfter d d
+nothing_after d good = record { good = good; alike = all_alike d.activations }
+
+pub then_after : (d e f : Data) → IsAfter d e → IsAfter e f → IsAfter d f
+then_after d e f h k = record { good = k.good; alike = all_trans d.activations e.activations f.activations h.alike k.alike }
+
+-- a word is stored
+pub word_after : (d : Data) (newest : ℕ) (p : Place) (y : ℕ) → IsData d → LiesIn d.activations newest p 1 → IsWord y → IsAfter d (with_word d p y)
+word_after d newest (Literal text) y good h small = nothing_after d good
+word_after d newest (Global w) y good h small = record {
+  good = record { globals_long = set_long d.globals w y ∙ good.globals_long; globals_words = set_words d.globals w y good.globals_words small; heap_long = good.heap_long; heap_words = good.heap_words; used = good.used; cells = good.cells; stack = good.stack; input = good.input };
+  alike = all_alike d.activations;
 }
-sees_stored P d newest row (Heap w) y s h small = record {
-  data_good = record { globals_long = s.data_good.globals_long; globals_words = s.data_good.globals_words; heap_long = set_long d.heap w y ∙ s.data_good.heap_long; heap_words = set_words d.heap w y s.data_good.heap_words small; used = s.data_good.used; cells = s.data_good.cells; stack = s.data_good.stack; input = s.data_good.input };
-  scoped = s.scoped;
-  found = s.found;
-  held = s.held;
+word_after d newest (Heap w) y good h small = record {
+  good = record { globals_long = good.globals_long; globals_words = good.globals_words; heap_long = set_long d.heap w y ∙ good.heap_long; heap_words = set_words d.heap w y good.heap_words small; used = good.used; cells = good.cells; stack = good.stack; input = good.input };
+  alike = all_alike d.activations;
 }
-sees_stored P d newest row (Local a w) y s h small =
+word_after d newest (Local a w) y good h small =
     record {
-      data_good = record { globals_long = s.data_good.globals_long; globals_words = s.data_good.globals_words; heap_long = s.data_good.heap_long; heap_words = s.data_good.heap_words; used = s.data_good.used; cells = s.data_good.cells; stack = omega (arith, s.data_good.stack, charges); input = s.data_good.input };
-      scoped = scoped_alike d.activations after alike P newest row.routine s.scoped;
-      found = s.found;
-      held = subst (AreOf after newest (row.around ++ s.found)) (newest_holds_alike d.activations after alike) (values_alike d.activations after alike newest (row.around ++ s.found) (newest_holds d.activations) s.held);
+      good = record { globals_long = good.globals_long; globals_words = good.globals_words; heap_long = good.heap_long; heap_words = good.heap_words; used = good.used; cells = good.cells; stack = omega (arith, good.stack, charges); input = good.input };
+      alike = alike;
     }
   where
     after : List Activation
@@ -203,3 +237,54 @@ sees_stored P d newest row (Local a w) y s h small =
 
     charges : stack_charges d.activations ≡ stack_charges after
     charges = same_charges d.activations after alike
+
+-- what an expression sees stays in order
+pub sees_after : (P : Program) (d e : Data) (newest : ℕ) (row : Row) → Sees P d newest row → IsAfter d e → Sees P e newest row
+sees_after P d e newest row s h = record {
+  data_good = h.good;
+  scoped = scoped_alike d.activations e.activations h.alike P newest row.routine s.scoped;
+  found = s.found;
+  held = subst (AreOf e.activations newest (row.around ++ s.found)) (newest_holds_alike d.activations e.activations h.alike) (values_alike d.activations e.activations h.alike newest (row.around ++ s.found) (newest_holds d.activations) s.held);
+}
+
+-- ---- many words
+
+pub words_after : (d : Data) (newest : ℕ) (p : Place) (ws : List ℕ) → IsData d → LiesIn d.activations newest p (length ws) → AllByRecursion IsWord ws → IsAfter d (with_words d p ws)
+words_after d newest p [] good h small = nothing_after d good
+words_after d newest p (w ∷ ws) good h small =
+    let one : IsAfter d (with_word d p w) = word_after d newest p w good (shorter_lies d.activations newest p 1 (suc (length ws)) h (omega arith)) small.0 in
+    then_after d (with_word d p w) (with_words (with_word d p w) (moved p 1) ws) one
+    (words_after (with_word d p w) newest (moved p 1) ws one.good
+    (lies_alike d.activations (with_word d p w).activations one.alike newest (moved p 1) (length ws) (moved_lies d.activations newest p 1 (length ws) (suc (length ws)) h (omega arith))) small.1)
+
+-- a copy, word by word: what was copied already may be copied again
+pub copy_after : (n : ℕ) (d : Data) (newest : ℕ) (from to : Place) → IsData d → LiesIn d.activations newest from n → LiesIn d.activations newest to n → IsAfter d (copied n from to d)
+copy_after zero d newest from to good h k = nothing_after d good
+copy_after (suc n) d newest from to good h k =
+    let one : IsAfter d (with_word d to (word_at d from)) = word_after d newest to (word_at d from) good (shorter_lies d.activations newest to 1 (suc n) k (omega arith)) (place_word d good newest from (suc n) h (omega arith)) in
+    then_after d (with_word d to (word_at d from)) (copied n (moved from 1) (moved to 1) (with_word d to (word_at d from))) one
+    (copy_after n (with_word d to (word_at d from)) newest (moved from 1) (moved to 1) one.good
+    (lies_alike d.activations (with_word d to (word_at d from)).activations one.alike newest (moved from 1) n (moved_lies d.activations newest from 1 n (suc n) h (omega arith)))
+    (lies_alike d.activations (with_word d to (word_at d from)).activations one.alike newest (moved to 1) n (moved_lies d.activations newest to 1 n (suc n) k (omega arith))))
+
+-- ---- an assignment
+
+pub assigned_after : (to : Storage) (whole : ℕ) (d : Data) (newest : ℕ) (p : Place) (v : Value) → IsData d → stored_words to ≤ whole → LiesIn d.activations newest p whole → IsOf d.activations newest (stored_kind to) v → IsAfter d (assigned to p v d)
+assigned_after (storage.Ordinal first last) whole d newest p (Word w) good le h is = word_after d newest p w good (shorter_lies d.activations newest p 1 whole h le) is
+assigned_after (storage.Ordinal first last) whole d newest p (Members ws) good le h is = absurd is
+assigned_after (storage.Ordinal first last) whole d newest p (At q) good le h is = absurd is
+assigned_after (storage.Ordinal first last) whole d newest p NoValue good le h is = absurd is
+assigned_after storage.Pointer whole d newest p (Word w) good le h is = word_after d newest p w good (shorter_lies d.activations newest p 1 whole h le) is
+assigned_after storage.Pointer whole d newest p (Members ws) good le h is = absurd is
+assigned_after storage.Pointer whole d newest p (At q) good le h is = absurd is
+assigned_after storage.Pointer whole d newest p NoValue good le h is = absurd is
+assigned_after (storage.Set first last) whole d newest p (Members ws) good le h is =
+    words_after d newest p ws good (shorter_lies d.activations newest p (length ws) whole h (omega (arith, le, is.0))) is.1
+assigned_after (storage.Set first last) whole d newest p (Word w) good le h is = absurd is
+assigned_after (storage.Set first last) whole d newest p (At q) good le h is = absurd is
+assigned_after (storage.Set first last) whole d newest p NoValue good le h is = absurd is
+assigned_after (storage.Structure n) whole d newest p (At q) good le h is =
+    copy_after n d newest q p good is (shorter_lies d.activations newest p n whole h le)
+assigned_after (storage.Structure n) whole d newest p (Word w) good le h is = absurd is
+assigned_after (storage.Structure n) whole d newest p (Members ws) good le h is = absurd is
+assigned_after (storage.Structure n) whole d newest p NoValue good le h is = absurd is
