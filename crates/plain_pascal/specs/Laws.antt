@@ -1,11 +1,16 @@
 -- Laws of the plain machine, for all forms of statements at once.
-use Rattle.std.specs.Prelude.{◌≡◌, ℕ, suc, ◌+◌, ◌-◌, true, List, ◌∷◌}
+use Rattle.std.specs.Prelude.{◌≡◌, ◌≤◌, ℕ, suc, ◌+◌, ◌-◌, true, List, ◌∷◌}
 use Rattle.core_tree.specs.Plain.{Routine}
 use Rattle.plain_machine.specs.Meaning.{IsClosed}
 use Rattle.plain_machine.specs.Plain.{next, settle}
 use Rattle.plain_machine.specs.Pauses.{drive, drive_from, gates_on, go_on}
 use Rattle.plain_pascal.specs.Program.{Program, program_of}
-use Rattle.plain_pascal.specs.State.{Halted, Data, Control, State}
+use Rattle.plain_pascal.specs.State.{Halted, Place, Value, Data, Control, State}
+use Rattle.core_tree.specs.declared.op.Storage.{Storage}
+use Rattle.plain_pascal.specs.Statements.{assigned}
+use Rattle.plain_pascal.specs.Step.{small_step}
+use Rattle.plain_pascal.specs.Typed.{stored_kind, stored_words}
+use Rattle.plain_pascal.specs.Valid.{IsData, IsInside, IsOf, IsProgram, IsWellFormed, LiesIn, NewestStands}
 use Rattle.plain_pascal.specs.Run.{Marks, cleared, continued, driven, fresh, passed, rests, run_of}
 use Rattle.plain_pascal.specs.Blocks.{blocks_of, pascal}
 use Rattle.plain_pascal.specs.Stages.{stage_of}
@@ -49,3 +54,13 @@ NextRunsAreStretches = (x : Routine) (m : ℕ) → IsResolved x m → (marks : M
     → Stands (program_of x) (record { status = Halted; control = c ∷ older; data_now = cleared d })
     → stage_of (run_of (program_of x) marks (suc k) (record { status = Halted; control = c ∷ older; data_now = d })).last
     ≡ drive pascal (blocks_of (program_of x)) (suc m) (pauses_of marks) (suc k) (stage_of (record { status = Halted; control = c ∷ older; data_now = cleared d }))
+
+-- a step that passes a gate, gives a part a frame, works out a value, calls a routine or leaves one keeps a state in order
+abbrev pub InnerStepsKeep : Type 0
+InnerStepsKeep = (P : Program) → IsProgram P → (s : State) → IsWellFormed P s → s.status ≡ Halted → IsInside s.control → IsWellFormed P (small_step P s)
+
+-- an assignment to a part that lies inside what it names keeps the data and all activations in order
+abbrev pub AssignmentsKeep : Type 0
+AssignmentsKeep = (P : Program) (to : Storage) (whole newest : ℕ) (d : Data) (p : Place) (v : Value) (cs : List Control) → IsData d
+    → stored_words to ≤ whole → LiesIn d.activations newest p whole → IsOf d.activations newest (stored_kind to) v → NewestStands P d.activations cs d.activations
+    → IsData (assigned to p v d) × NewestStands P (assigned to p v d).activations cs (assigned to p v d).activations

@@ -1,10 +1,10 @@
 -- The states that a program can be in: each activation is one of a routine of the program, stands at a statement of it,
 -- and has the words, holds and kept values of that place.
-use Rattle.std.specs.Prelude.{◌≡◌, ℕ, ◌+◌, ◌≤◌, ◌<◌, List, [], ◌∷◌, ◌++◌, length, Some, None, slice_get, ◌⊎◌}
+use Rattle.std.specs.Prelude.{◌≡◌, ℕ, ◌+◌, ◌≤◌, ◌<◌, List, [], ◌∷◌, ◌++◌, length, Option, Some, None, slice_get, ◌⊎◌}
 use Rattle.std.specs.List.{AllByRecursion}
 use Rattle.core_tree.specs.declared.op.Op.{Op}
 use Rattle.core_tree.specs.declared.op.Op.TheVariants as op
-use Rattle.core_tree.specs.Plain.{Operation, Exprs, part_at}
+use Rattle.core_tree.specs.Plain.{Expr, Operation, Exprs, part_at}
 use Rattle.plain_pascal.specs.Program.{Kind, NoKind, WordKind, SetKind, PlaceKind, Row, RoutineRow, Program, row_of, routine_of}
 use Rattle.plain_pascal.specs.State.{Status, NotStarted, Halted, Place, Global, Local, Heap, Literal, Value, Word, Members, At, NoValue, Node, OfStatement, OfExpr, PendingFrame, Activation, Cell, Data, Control, State, globals_count, heap_count}
 use Rattle.plain_pascal.specs.Memory.{from_activation, words_of}
@@ -130,12 +130,34 @@ pub record IsWellFormed (P : Program) (s : State) : Type 0 where
   pub data_good : IsData s.data_now
   pub stands : StandsBy s.status P s
 
--- a program whose statements and links are in order
 -- a routine's body begins at a statement of its own, in no holds
 abbrev pub HasEntry : Program → RoutineRow → Type 0
 HasEntry P r = (row : Row) × (row_of P r.entry ≡ Some row) × (row.routine ≡ r.name) × (row.around ≡ [])
 
+-- a program whose statements are in order, and in which a routine's name is no statement's
 pub record IsProgram (P : Program) : Type 0 where
   pub entries : (n : ℕ) (r : RoutineRow) → routine_of P n ≡ Some r → HasEntry P r
   pub no_zero : routine_of P 0 ≡ None
+  pub bare : (n : ℕ) (r : RoutineRow) → routine_of P n ≡ Some r → row_of P n ≡ None
   pub forms : (n : ℕ) (row : Row) → row_of P n ≡ Some row → IsForm P row
+
+-- ---- steps inside a statement
+
+-- an operation without an effect; a call is one
+abbrev pub IsInner : Op → Type 0
+IsInner (op.Effect e) = ⊥
+IsInner o = Unit {0}
+
+abbrev pub IsInnerNode : Option Expr → Node → Type 0
+IsInnerNode (Some e) x = Unit {0}
+IsInnerNode None (OfExpr (Operation o ps)) = IsInner o
+IsInnerNode None (OfStatement f) = ⊥
+
+-- the next step passes a gate, gives a part a frame, or has the value of an operation or its call
+abbrev pub AreInner : List PendingFrame → Type 0
+AreInner [] = Unit {0}
+AreInner (f ∷ fs) = IsInnerNode (part_at (parts_of f.node) (length f.kept)) f.node
+
+abbrev pub IsInside : List Control → Type 0
+IsInside [] = ⊥
+IsInside (c ∷ older) = AreInner c.frames
