@@ -15,11 +15,11 @@ use Rattle.plain_cases.specs.Build.{node, two, integers, global, value, number, 
 
 abbrev source : Routine
 source =
-  (routine 1 0 [] None [] []
+    (routine 1 0 [] None [] []
     (compound 3 None (
-      (statement 4 None 0 0 (stmt.Assign integers) ((global 0) ∷ (number (pos 32767)) ∷ []) []) ∷
-      (statement 5 None 0 0 (stmt.Write false) ((node (op.Effect (effect.Write written.Integer true)) ((node (op.Word word.Negate) ((value (global 0)) ∷ [])) ∷ (number (pos 1)) ∷ [])) ∷ []) []) ∷
-      (statement 6 None 0 0 (stmt.Assign integers) ((global 0) ∷ (two word.Add (value (global 0)) (number (pos 1))) ∷ []) []) ∷ [])))
+    (statement 4 None 0 0 (stmt.Assign integers) ((global 0) ∷ (number (pos 32767)) ∷ []) []) ∷
+    (statement 5 None 0 0 (stmt.Write false) ((node (op.Effect (effect.Write written.Integer true)) ((node (op.Word word.Negate) ((value (global 0)) ∷ [])) ∷ (number (pos 1)) ∷ [])) ∷ []) []) ∷
+    (statement 6 None 0 0 (stmt.Assign integers) ((global 0) ∷ (two word.Add (value (global 0)) (number (pos 1))) ∷ []) []) ∷ [])))
 
 abbrev P : Program
 P = program_of source

@@ -21,22 +21,22 @@ use Rattle.plain_cases.specs.Build.{node, two, integers, global, value, number, 
 
 abbrev source : Routine
 source =
-  (routine 1 0 [] None [] []
+    (routine 1 0 [] None [] []
     (compound 6 None (
-      (statement 7 None 0 0 (stmt.Assign storage.Pointer) ((global 0) ∷ (node (op.Word word.Nil) []) ∷ []) []) ∷
-      (statement 8 None 0 0 (stmt.For (record { variable = (record { scope = scope.Program; offset = 2; by_place = false; frame_words = 0 }); first = negsuc 32766; last = pos 32767; down = false })) ((number (pos 1)) ∷ (number (pos 3)) ∷ []) (
-        (compound 9 None (
-          (statement 10 None 0 1 (stmt.New 2) ((global 1) ∷ []) []) ∷
-          (statement 11 None 0 1 (stmt.Assign integers) ((node (op.Place (place.Field 0)) ((node (op.Place (place.Dereference 2)) ((global 1) ∷ [])) ∷ [])) ∷ (two word.Multiply (value (global 2)) (value (global 2))) ∷ []) []) ∷
-          (statement 12 None 0 1 (stmt.Assign storage.Pointer) ((node (op.Place (place.Field 1)) ((node (op.Place (place.Dereference 2)) ((global 1) ∷ [])) ∷ [])) ∷ (value (global 0)) ∷ []) []) ∷
-          (statement 13 None 0 1 (stmt.Assign storage.Pointer) ((global 0) ∷ (value (global 1)) ∷ []) []) ∷ [])) ∷ [])) ∷
-      (statement 14 None 0 0 stmt.While ((node (op.Word (word.Compare relation.NotEqual)) ((value (global 0)) ∷ (node (op.Word word.Nil) []) ∷ [])) ∷ []) (
-        (compound 15 None (
-          (statement 16 None 0 0 (stmt.Write false) ((node (op.Effect (effect.Write written.Integer true)) ((value (node (op.Place (place.Field 0)) ((node (op.Place (place.Dereference 2)) ((global 0) ∷ [])) ∷ []))) ∷ (number (pos 3)) ∷ [])) ∷ []) []) ∷
-          (statement 17 None 0 0 (stmt.Assign storage.Pointer) ((global 1) ∷ (value (global 0)) ∷ []) []) ∷
-          (statement 18 None 0 0 (stmt.Assign storage.Pointer) ((global 0) ∷ (value (node (op.Place (place.Field 1)) ((node (op.Place (place.Dereference 2)) ((global 0) ∷ [])) ∷ []))) ∷ []) []) ∷
-          (statement 19 None 0 0 (stmt.Dispose 2) ((value (global 1)) ∷ []) []) ∷ [])) ∷ [])) ∷
-      (statement 20 None 0 0 (stmt.Write true) ((node (op.Effect (effect.Write written.Integer false)) ((value (node (op.Place (place.Field 0)) ((node (op.Place (place.Dereference 2)) ((global 1) ∷ [])) ∷ []))) ∷ [])) ∷ []) []) ∷ [])))
+    (statement 7 None 0 0 (stmt.Assign storage.Pointer) ((global 0) ∷ (node (op.Word word.Nil) []) ∷ []) []) ∷
+    (statement 8 None 0 0 (stmt.For (record { variable = (record { scope = scope.Program; offset = 2; by_place = false; frame_words = 0 }); first = negsuc 32766; last = pos 32767; down = false })) ((number (pos 1)) ∷ (number (pos 3)) ∷ []) (
+    (compound 9 None (
+    (statement 10 None 0 1 (stmt.New 2) ((global 1) ∷ []) []) ∷
+    (statement 11 None 0 1 (stmt.Assign integers) ((node (op.Place (place.Field 0)) ((node (op.Place (place.Dereference 2)) ((global 1) ∷ [])) ∷ [])) ∷ (two word.Multiply (value (global 2)) (value (global 2))) ∷ []) []) ∷
+    (statement 12 None 0 1 (stmt.Assign storage.Pointer) ((node (op.Place (place.Field 1)) ((node (op.Place (place.Dereference 2)) ((global 1) ∷ [])) ∷ [])) ∷ (value (global 0)) ∷ []) []) ∷
+    (statement 13 None 0 1 (stmt.Assign storage.Pointer) ((global 0) ∷ (value (global 1)) ∷ []) []) ∷ [])) ∷ [])) ∷
+    (statement 14 None 0 0 stmt.While ((node (op.Word (word.Compare relation.NotEqual)) ((value (global 0)) ∷ (node (op.Word word.Nil) []) ∷ [])) ∷ []) (
+    (compound 15 None (
+    (statement 16 None 0 0 (stmt.Write false) ((node (op.Effect (effect.Write written.Integer true)) ((value (node (op.Place (place.Field 0)) ((node (op.Place (place.Dereference 2)) ((global 0) ∷ [])) ∷ []))) ∷ (number (pos 3)) ∷ [])) ∷ []) []) ∷
+    (statement 17 None 0 0 (stmt.Assign storage.Pointer) ((global 1) ∷ (value (global 0)) ∷ []) []) ∷
+    (statement 18 None 0 0 (stmt.Assign storage.Pointer) ((global 0) ∷ (value (node (op.Place (place.Field 1)) ((node (op.Place (place.Dereference 2)) ((global 0) ∷ [])) ∷ []))) ∷ []) []) ∷
+    (statement 19 None 0 0 (stmt.Dispose 2) ((value (global 1)) ∷ []) []) ∷ [])) ∷ [])) ∷
+    (statement 20 None 0 0 (stmt.Write true) ((node (op.Effect (effect.Write written.Integer false)) ((value (node (op.Place (place.Field 0)) ((node (op.Place (place.Dereference 2)) ((global 1) ∷ [])) ∷ []))) ∷ [])) ∷ []) []) ∷ [])))
 
 abbrev P : Program
 P = program_of source

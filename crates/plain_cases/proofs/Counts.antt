@@ -17,19 +17,19 @@ use Rattle.plain_cases.specs.Build.{node, two, integers, global, value, number, 
 
 abbrev source : Routine
 source =
-  (routine 1 0 [] None [] []
+    (routine 1 0 [] None [] []
     (compound 3 None (
-      (statement 4 None 0 0 (stmt.Assign integers) ((global 1) ∷ (number (pos 3)) ∷ []) []) ∷
-      (statement 5 None 0 0 (stmt.For (record { variable = (record { scope = scope.Program; offset = 0; by_place = false; frame_words = 0 }); first = negsuc 32766; last = pos 32767; down = false })) ((number (pos 1)) ∷ (value (global 1)) ∷ []) (
-        (statement 6 None 0 1 (stmt.Assign integers) ((global 1) ∷ (two word.Add (value (global 1)) (number (pos 1))) ∷ []) []) ∷ [])) ∷
-      (statement 7 None 0 0 (stmt.Write false) ((node (op.Effect (effect.Write written.Integer true)) ((value (global 1)) ∷ (number (pos 1)) ∷ [])) ∷ (node (op.Effect (effect.Write written.Integer true)) ((value (global 0)) ∷ (number (pos 2)) ∷ [])) ∷ []) []) ∷
-      (statement 8 None 0 0 (stmt.For (record { variable = (record { scope = scope.Program; offset = 0; by_place = false; frame_words = 0 }); first = negsuc 32766; last = pos 32767; down = false })) ((number (pos 5)) ∷ (number (pos 4)) ∷ []) (
-        (statement 9 None 0 1 (stmt.Assign integers) ((global 1) ∷ (number (pos 100)) ∷ []) []) ∷ [])) ∷
-      (statement 10 None 0 0 (stmt.For (record { variable = (record { scope = scope.Program; offset = 0; by_place = false; frame_words = 0 }); first = negsuc 32766; last = pos 32767; down = false })) ((number (pos 32766)) ∷ (number (pos 32767)) ∷ []) (
-        (statement 11 None 0 1 (stmt.Assign integers) ((global 1) ∷ (two word.Add (value (global 1)) (number (pos 1))) ∷ []) []) ∷ [])) ∷
-      (statement 12 None 0 0 (stmt.For (record { variable = (record { scope = scope.Program; offset = 0; by_place = false; frame_words = 0 }); first = negsuc 32766; last = pos 32767; down = true })) ((number (pos 3)) ∷ (number (pos 1)) ∷ []) (
-        (statement 13 None 0 1 (stmt.Assign integers) ((global 1) ∷ (two word.Multiply (number (pos 2)) (value (global 1))) ∷ []) []) ∷ [])) ∷
-      (statement 14 None 0 0 (stmt.Write true) ((node (op.Effect (effect.Write written.Integer true)) ((value (global 1)) ∷ (number (pos 4)) ∷ [])) ∷ []) []) ∷ [])))
+    (statement 4 None 0 0 (stmt.Assign integers) ((global 1) ∷ (number (pos 3)) ∷ []) []) ∷
+    (statement 5 None 0 0 (stmt.For (record { variable = (record { scope = scope.Program; offset = 0; by_place = false; frame_words = 0 }); first = negsuc 32766; last = pos 32767; down = false })) ((number (pos 1)) ∷ (value (global 1)) ∷ []) (
+    (statement 6 None 0 1 (stmt.Assign integers) ((global 1) ∷ (two word.Add (value (global 1)) (number (pos 1))) ∷ []) []) ∷ [])) ∷
+    (statement 7 None 0 0 (stmt.Write false) ((node (op.Effect (effect.Write written.Integer true)) ((value (global 1)) ∷ (number (pos 1)) ∷ [])) ∷ (node (op.Effect (effect.Write written.Integer true)) ((value (global 0)) ∷ (number (pos 2)) ∷ [])) ∷ []) []) ∷
+    (statement 8 None 0 0 (stmt.For (record { variable = (record { scope = scope.Program; offset = 0; by_place = false; frame_words = 0 }); first = negsuc 32766; last = pos 32767; down = false })) ((number (pos 5)) ∷ (number (pos 4)) ∷ []) (
+    (statement 9 None 0 1 (stmt.Assign integers) ((global 1) ∷ (number (pos 100)) ∷ []) []) ∷ [])) ∷
+    (statement 10 None 0 0 (stmt.For (record { variable = (record { scope = scope.Program; offset = 0; by_place = false; frame_words = 0 }); first = negsuc 32766; last = pos 32767; down = false })) ((number (pos 32766)) ∷ (number (pos 32767)) ∷ []) (
+    (statement 11 None 0 1 (stmt.Assign integers) ((global 1) ∷ (two word.Add (value (global 1)) (number (pos 1))) ∷ []) []) ∷ [])) ∷
+    (statement 12 None 0 0 (stmt.For (record { variable = (record { scope = scope.Program; offset = 0; by_place = false; frame_words = 0 }); first = negsuc 32766; last = pos 32767; down = true })) ((number (pos 3)) ∷ (number (pos 1)) ∷ []) (
+    (statement 13 None 0 1 (stmt.Assign integers) ((global 1) ∷ (two word.Multiply (number (pos 2)) (value (global 1))) ∷ []) []) ∷ [])) ∷
+    (statement 14 None 0 0 (stmt.Write true) ((node (op.Effect (effect.Write written.Integer true)) ((value (global 1)) ∷ (number (pos 4)) ∷ [])) ∷ []) []) ∷ [])))
 
 abbrev P : Program
 P = program_of source

@@ -17,12 +17,12 @@ use Rattle.plain_cases.specs.Build.{node, two, integers, global, value, number, 
 
 abbrev source : Routine
 source =
-  (routine 1 0 [] None [] []
+    (routine 1 0 [] None [] []
     (compound 3 None (
-      (statement 4 None 0 0 (stmt.Write true) ((node (op.Effect (effect.Write written.Integer true)) ((two word.Divide (number (pos 7)) (node (op.Word word.Negate) ((number (pos 2)) ∷ []))) ∷ (number (pos 1)) ∷ [])) ∷ (node (op.Effect (effect.Write written.Integer true)) ((two word.Modulo (node (op.Word word.Negate) ((number (pos 7)) ∷ [])) (number (pos 2))) ∷ (number (pos 2)) ∷ [])) ∷ []) []) ∷
-      (statement 5 None 0 0 (stmt.Assign integers) ((global 0) ∷ (number (pos 1)) ∷ []) []) ∷
-      (statement 6 None 0 0 (stmt.If false) ((two word.And (node (op.Word (word.Compare relation.Equal)) ((value (global 0)) ∷ (number (pos 0)) ∷ [])) (node (op.Word (word.Compare relation.Equal)) ((two word.Divide (number (pos 1)) (value (global 1))) ∷ (number (pos 1)) ∷ []))) ∷ []) (
-        (statement 7 None 0 0 (stmt.Assign integers) ((global 0) ∷ (number (pos 2)) ∷ []) []) ∷ [])) ∷ [])))
+    (statement 4 None 0 0 (stmt.Write true) ((node (op.Effect (effect.Write written.Integer true)) ((two word.Divide (number (pos 7)) (node (op.Word word.Negate) ((number (pos 2)) ∷ []))) ∷ (number (pos 1)) ∷ [])) ∷ (node (op.Effect (effect.Write written.Integer true)) ((two word.Modulo (node (op.Word word.Negate) ((number (pos 7)) ∷ [])) (number (pos 2))) ∷ (number (pos 2)) ∷ [])) ∷ []) []) ∷
+    (statement 5 None 0 0 (stmt.Assign integers) ((global 0) ∷ (number (pos 1)) ∷ []) []) ∷
+    (statement 6 None 0 0 (stmt.If false) ((two word.And (node (op.Word (word.Compare relation.Equal)) ((value (global 0)) ∷ (number (pos 0)) ∷ [])) (node (op.Word (word.Compare relation.Equal)) ((two word.Divide (number (pos 1)) (value (global 1))) ∷ (number (pos 1)) ∷ []))) ∷ []) (
+    (statement 7 None 0 0 (stmt.Assign integers) ((global 0) ∷ (number (pos 2)) ∷ []) []) ∷ [])) ∷ [])))
 
 abbrev P : Program
 P = program_of source

@@ -19,16 +19,16 @@ use Rattle.plain_cases.specs.Build.{node, two, integers, global, local, value, n
 
 abbrev source : Routine
 source =
-  (routine 1 0 [] None [] (
-  (routine 3 1 (formal false Integer ∷ []) (Some Integer) [] []
+    (routine 1 0 [] None [] (
+    (routine 3 1 (formal false Integer ∷ []) (Some Integer) [] []
     (compound 4 None (
-      (statement 5 None 1 0 (stmt.If true) ((node (op.Word (word.Compare relation.Less)) ((value (local 0 1 2)) ∷ (number (pos 2)) ∷ [])) ∷ []) (
-        (statement 6 None 1 0 (stmt.Assign integers) ((local 0 0 2) ∷ (number (pos 1)) ∷ []) []) ∷
-        (statement 7 None 1 0 (stmt.Assign integers) ((local 0 0 2) ∷ (two word.Multiply (value (local 0 1 2)) (node (op.Call (record { routine = record { 0 = 3 }; scope = scope.Program; function = true })) ((node (op.Argument integers) ((two word.Subtract (value (local 0 1 2)) (number (pos 1))) ∷ [])) ∷ []))) ∷ []) []) ∷ [])) ∷
-      (statement 8 None 1 0 (stmt.Assign integers) ((global 1) ∷ (two word.Add (value (global 1)) (number (pos 1))) ∷ []) []) ∷ []))) ∷ [])
+    (statement 5 None 1 0 (stmt.If true) ((node (op.Word (word.Compare relation.Less)) ((value (local 0 1 2)) ∷ (number (pos 2)) ∷ [])) ∷ []) (
+    (statement 6 None 1 0 (stmt.Assign integers) ((local 0 0 2) ∷ (number (pos 1)) ∷ []) []) ∷
+    (statement 7 None 1 0 (stmt.Assign integers) ((local 0 0 2) ∷ (two word.Multiply (value (local 0 1 2)) (node (op.Call (record { routine = record { 0 = 3 }; scope = scope.Program; function = true })) ((node (op.Argument integers) ((two word.Subtract (value (local 0 1 2)) (number (pos 1))) ∷ [])) ∷ []))) ∷ []) []) ∷ [])) ∷
+    (statement 8 None 1 0 (stmt.Assign integers) ((global 1) ∷ (two word.Add (value (global 1)) (number (pos 1))) ∷ []) []) ∷ []))) ∷ [])
     (compound 9 None (
-      (statement 10 None 0 0 (stmt.Assign integers) ((global 0) ∷ (node (op.Call (record { routine = record { 0 = 3 }; scope = scope.Program; function = true })) ((node (op.Argument integers) ((number (pos 4)) ∷ [])) ∷ [])) ∷ []) []) ∷
-      (statement 11 None 0 0 (stmt.Write true) ((node (op.Effect (effect.Write written.Integer true)) ((value (global 0)) ∷ (number (pos 1)) ∷ [])) ∷ (node (op.Effect (effect.Write written.Integer true)) ((value (global 1)) ∷ (number (pos 3)) ∷ [])) ∷ []) []) ∷ [])))
+    (statement 10 None 0 0 (stmt.Assign integers) ((global 0) ∷ (node (op.Call (record { routine = record { 0 = 3 }; scope = scope.Program; function = true })) ((node (op.Argument integers) ((number (pos 4)) ∷ [])) ∷ [])) ∷ []) []) ∷
+    (statement 11 None 0 0 (stmt.Write true) ((node (op.Effect (effect.Write written.Integer true)) ((value (global 0)) ∷ (number (pos 1)) ∷ [])) ∷ (node (op.Effect (effect.Write written.Integer true)) ((value (global 1)) ∷ (number (pos 3)) ∷ [])) ∷ []) []) ∷ [])))
 
 abbrev P : Program
 P = program_of source

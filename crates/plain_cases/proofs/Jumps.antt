@@ -20,23 +20,23 @@ use Rattle.plain_cases.specs.Build.{node, two, integers, global, value, number, 
 
 abbrev source : Routine
 source =
-  (routine 1 0 [] None [] []
+    (routine 1 0 [] None [] []
     (compound 4 None (
-      (statement 5 None 0 0 (stmt.Assign integers) ((global 1) ∷ (number (pos 0)) ∷ []) []) ∷
-      (statement 6 None 0 0 stmt.Repeat ((node (op.Word (word.Compare relation.Greater)) ((value (global 1)) ∷ (number (pos 7)) ∷ [])) ∷ []) (
-        (statement 7 None 0 0 (stmt.Assign integers) ((global 1) ∷ (two word.Add (value (global 1)) (number (pos 3))) ∷ []) []) ∷ [])) ∷
-      (statement 8 None 0 0 (stmt.For (record { variable = (record { scope = scope.Program; offset = 0; by_place = false; frame_words = 0 }); first = negsuc 32766; last = pos 32767; down = false })) ((number (pos 1)) ∷ (number (pos 5)) ∷ []) (
-        (statement 9 None 0 1 (stmt.If false) ((node (op.Word (word.Compare relation.Equal)) ((value (global 0)) ∷ (number (pos 3)) ∷ [])) ∷ []) (
-          (statement 10 None 0 1 (stmt.Goto 9) [] []) ∷ [])) ∷ [])) ∷
-      (statement 11 (Some 9) 0 0 (stmt.Write false) ((node (op.Effect (effect.Write written.Integer true)) ((value (global 1)) ∷ (number (pos 1)) ∷ [])) ∷ (node (op.Effect (effect.Write written.Integer true)) ((value (global 0)) ∷ (number (pos 2)) ∷ [])) ∷ []) []) ∷
-      (statement 12 None 0 0 (stmt.For (record { variable = (record { scope = scope.Program; offset = 0; by_place = false; frame_words = 0 }); first = negsuc 32766; last = pos 32767; down = false })) ((number (pos 1)) ∷ (number (pos 2)) ∷ []) (
-        (statement 13 None 0 1 (stmt.Assign integers) ((global 1) ∷ (two word.Add (value (global 1)) (value (global 0))) ∷ []) []) ∷ [])) ∷
-      (statement 14 None 0 0 (stmt.Write false) ((node (op.Effect (effect.Write written.Integer true)) ((value (global 1)) ∷ (number (pos 3)) ∷ [])) ∷ []) []) ∷
-      (statement 15 None 0 0 (stmt.Case (record { value = pos 11; arm = 0 } ∷ record { value = pos 13; arm = 0 } ∷ record { value = pos 12; arm = 1 } ∷ [])) ((value (global 1)) ∷ []) (
-        (statement 16 None 0 0 (stmt.Assign integers) ((global 1) ∷ (number (pos 0)) ∷ []) []) ∷
-        (statement 17 None 0 0 (stmt.Assign integers) ((global 1) ∷ (number (pos 5)) ∷ []) []) ∷ [])) ∷
-      (statement 18 None 0 0 (stmt.Case (record { value = pos 1; arm = 0 } ∷ [])) ((value (global 1)) ∷ []) (
-        (statement 19 None 0 0 (stmt.Assign integers) ((global 1) ∷ (number (pos 2)) ∷ []) []) ∷ [])) ∷ [])))
+    (statement 5 None 0 0 (stmt.Assign integers) ((global 1) ∷ (number (pos 0)) ∷ []) []) ∷
+    (statement 6 None 0 0 stmt.Repeat ((node (op.Word (word.Compare relation.Greater)) ((value (global 1)) ∷ (number (pos 7)) ∷ [])) ∷ []) (
+    (statement 7 None 0 0 (stmt.Assign integers) ((global 1) ∷ (two word.Add (value (global 1)) (number (pos 3))) ∷ []) []) ∷ [])) ∷
+    (statement 8 None 0 0 (stmt.For (record { variable = (record { scope = scope.Program; offset = 0; by_place = false; frame_words = 0 }); first = negsuc 32766; last = pos 32767; down = false })) ((number (pos 1)) ∷ (number (pos 5)) ∷ []) (
+    (statement 9 None 0 1 (stmt.If false) ((node (op.Word (word.Compare relation.Equal)) ((value (global 0)) ∷ (number (pos 3)) ∷ [])) ∷ []) (
+    (statement 10 None 0 1 (stmt.Goto 9) [] []) ∷ [])) ∷ [])) ∷
+    (statement 11 (Some 9) 0 0 (stmt.Write false) ((node (op.Effect (effect.Write written.Integer true)) ((value (global 1)) ∷ (number (pos 1)) ∷ [])) ∷ (node (op.Effect (effect.Write written.Integer true)) ((value (global 0)) ∷ (number (pos 2)) ∷ [])) ∷ []) []) ∷
+    (statement 12 None 0 0 (stmt.For (record { variable = (record { scope = scope.Program; offset = 0; by_place = false; frame_words = 0 }); first = negsuc 32766; last = pos 32767; down = false })) ((number (pos 1)) ∷ (number (pos 2)) ∷ []) (
+    (statement 13 None 0 1 (stmt.Assign integers) ((global 1) ∷ (two word.Add (value (global 1)) (value (global 0))) ∷ []) []) ∷ [])) ∷
+    (statement 14 None 0 0 (stmt.Write false) ((node (op.Effect (effect.Write written.Integer true)) ((value (global 1)) ∷ (number (pos 3)) ∷ [])) ∷ []) []) ∷
+    (statement 15 None 0 0 (stmt.Case (record { value = pos 11; arm = 0 } ∷ record { value = pos 13; arm = 0 } ∷ record { value = pos 12; arm = 1 } ∷ [])) ((value (global 1)) ∷ []) (
+    (statement 16 None 0 0 (stmt.Assign integers) ((global 1) ∷ (number (pos 0)) ∷ []) []) ∷
+    (statement 17 None 0 0 (stmt.Assign integers) ((global 1) ∷ (number (pos 5)) ∷ []) []) ∷ [])) ∷
+    (statement 18 None 0 0 (stmt.Case (record { value = pos 1; arm = 0 } ∷ [])) ((value (global 1)) ∷ []) (
+    (statement 19 None 0 0 (stmt.Assign integers) ((global 1) ∷ (number (pos 2)) ∷ []) []) ∷ [])) ∷ [])))
 
 abbrev P : Program
 P = program_of source

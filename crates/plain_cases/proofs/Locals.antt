@@ -16,15 +16,15 @@ use Rattle.plain_cases.specs.Build.{node, integers, local, value, number, compou
 
 abbrev source : Routine
 source =
-  (routine 1 0 [] None [] (
-  (routine 2 1 [] None (variable Integer ∷ []) []
+    (routine 1 0 [] None [] (
+    (routine 2 1 [] None (variable Integer ∷ []) []
     (compound 4 None (
-      (statement 5 None 1 0 (stmt.Write false) ((node (op.Effect (effect.Write written.Integer true)) ((value (local 0 0 1)) ∷ (number (pos 2)) ∷ [])) ∷ []) []) ∷
-      (statement 6 None 1 0 (stmt.Assign integers) ((local 0 0 1) ∷ (number (pos 7)) ∷ []) []) ∷ []))) ∷ [])
+    (statement 5 None 1 0 (stmt.Write false) ((node (op.Effect (effect.Write written.Integer true)) ((value (local 0 0 1)) ∷ (number (pos 2)) ∷ [])) ∷ []) []) ∷
+    (statement 6 None 1 0 (stmt.Assign integers) ((local 0 0 1) ∷ (number (pos 7)) ∷ []) []) ∷ []))) ∷ [])
     (compound 7 None (
-      (statement 8 None 0 0 stmt.Call ((node (op.Call (record { routine = record { 0 = 2 }; scope = scope.Program; function = false })) []) ∷ []) []) ∷
-      (statement 9 None 0 0 stmt.Call ((node (op.Call (record { routine = record { 0 = 2 }; scope = scope.Program; function = false })) []) ∷ []) []) ∷
-      (statement 10 None 0 0 (stmt.Write true) [] []) ∷ [])))
+    (statement 8 None 0 0 stmt.Call ((node (op.Call (record { routine = record { 0 = 2 }; scope = scope.Program; function = false })) []) ∷ []) []) ∷
+    (statement 9 None 0 0 stmt.Call ((node (op.Call (record { routine = record { 0 = 2 }; scope = scope.Program; function = false })) []) ∷ []) []) ∷
+    (statement 10 None 0 0 (stmt.Write true) [] []) ∷ [])))
 
 abbrev P : Program
 P = program_of source

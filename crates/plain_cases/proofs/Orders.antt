@@ -18,18 +18,18 @@ use Rattle.plain_cases.specs.Build.{node, two, integers, global, local, value, n
 
 abbrev source : Routine
 source =
-  (routine 1 0 [] None [] (
-  (routine 3 1 (formal false Integer ∷ []) (Some Integer) [] []
+    (routine 1 0 [] None [] (
+    (routine 3 1 (formal false Integer ∷ []) (Some Integer) [] []
     (compound 4 None (
-      (statement 5 None 1 0 (stmt.Assign integers) ((global 0) ∷ (two word.Add (two word.Multiply (number (pos 10)) (value (global 0))) (value (local 0 1 2))) ∷ []) []) ∷
-      (statement 6 None 1 0 (stmt.Assign integers) ((local 0 0 2) ∷ (value (local 0 1 2)) ∷ []) []) ∷ []))) ∷
-  (routine 7 1 (formal false Integer ∷ formal false Integer ∷ []) None [] []
+    (statement 5 None 1 0 (stmt.Assign integers) ((global 0) ∷ (two word.Add (two word.Multiply (number (pos 10)) (value (global 0))) (value (local 0 1 2))) ∷ []) []) ∷
+    (statement 6 None 1 0 (stmt.Assign integers) ((local 0 0 2) ∷ (value (local 0 1 2)) ∷ []) []) ∷ []))) ∷
+    (routine 7 1 (formal false Integer ∷ formal false Integer ∷ []) None [] []
     (compound 8 None (
-      (statement 9 None 1 0 stmt.Empty [] []) ∷ []))) ∷ [])
+    (statement 9 None 1 0 stmt.Empty [] []) ∷ []))) ∷ [])
     (compound 10 None (
-      (statement 11 None 0 0 (stmt.Assign integers) ((global 1) ∷ (two word.Subtract (node (op.Call (record { routine = record { 0 = 3 }; scope = scope.Program; function = true })) ((node (op.Argument integers) ((number (pos 1)) ∷ [])) ∷ [])) (node (op.Call (record { routine = record { 0 = 3 }; scope = scope.Program; function = true })) ((node (op.Argument integers) ((number (pos 2)) ∷ [])) ∷ []))) ∷ []) []) ∷
-      (statement 12 None 0 0 stmt.Call ((node (op.Call (record { routine = record { 0 = 7 }; scope = scope.Program; function = false })) ((node (op.Argument integers) ((node (op.Call (record { routine = record { 0 = 3 }; scope = scope.Program; function = true })) ((node (op.Argument integers) ((number (pos 3)) ∷ [])) ∷ [])) ∷ [])) ∷ (node (op.Argument integers) ((node (op.Call (record { routine = record { 0 = 3 }; scope = scope.Program; function = true })) ((node (op.Argument integers) ((number (pos 4)) ∷ [])) ∷ [])) ∷ [])) ∷ [])) ∷ []) []) ∷
-      (statement 13 None 0 0 (stmt.Write true) ((node (op.Effect (effect.Write written.Integer true)) ((value (global 0)) ∷ (number (pos 1)) ∷ [])) ∷ (node (op.Effect (effect.Write written.Integer true)) ((value (global 1)) ∷ (number (pos 4)) ∷ [])) ∷ []) []) ∷ [])))
+    (statement 11 None 0 0 (stmt.Assign integers) ((global 1) ∷ (two word.Subtract (node (op.Call (record { routine = record { 0 = 3 }; scope = scope.Program; function = true })) ((node (op.Argument integers) ((number (pos 1)) ∷ [])) ∷ [])) (node (op.Call (record { routine = record { 0 = 3 }; scope = scope.Program; function = true })) ((node (op.Argument integers) ((number (pos 2)) ∷ [])) ∷ []))) ∷ []) []) ∷
+    (statement 12 None 0 0 stmt.Call ((node (op.Call (record { routine = record { 0 = 7 }; scope = scope.Program; function = false })) ((node (op.Argument integers) ((node (op.Call (record { routine = record { 0 = 3 }; scope = scope.Program; function = true })) ((node (op.Argument integers) ((number (pos 3)) ∷ [])) ∷ [])) ∷ [])) ∷ (node (op.Argument integers) ((node (op.Call (record { routine = record { 0 = 3 }; scope = scope.Program; function = true })) ((node (op.Argument integers) ((number (pos 4)) ∷ [])) ∷ [])) ∷ [])) ∷ [])) ∷ []) []) ∷
+    (statement 13 None 0 0 (stmt.Write true) ((node (op.Effect (effect.Write written.Integer true)) ((value (global 0)) ∷ (number (pos 1)) ∷ [])) ∷ (node (op.Effect (effect.Write written.Integer true)) ((value (global 1)) ∷ (number (pos 4)) ∷ [])) ∷ []) []) ∷ [])))
 
 abbrev P : Program
 P = program_of source

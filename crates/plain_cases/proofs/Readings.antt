@@ -14,12 +14,12 @@ use Rattle.plain_cases.specs.Build.{node, two, global, value, number, compound, 
 
 abbrev source : Routine
 source =
-  (routine 1 0 [] None [] []
+    (routine 1 0 [] None [] []
     (compound 4 None (
-      (statement 5 None 0 0 (stmt.Read false) ((node (op.Effect (effect.ReadInteger (negsuc 32766) (pos 32767))) ((global 1) ∷ [])) ∷ (node (op.Effect (effect.ReadChar (pos 0) (pos 127))) ((global 0) ∷ [])) ∷ []) []) ∷
-      (statement 6 None 0 0 (stmt.Write true) ((node (op.Effect (effect.Write written.Integer true)) ((two word.Add (value (global 1)) (number (pos 1))) ∷ (number (pos 4)) ∷ [])) ∷ (node (op.Effect (effect.Write written.Char false)) ((value (global 0)) ∷ [])) ∷ (node (op.Effect (effect.Write written.Boolean false)) ((node (op.Word word.Eoln) []) ∷ [])) ∷ []) []) ∷
-      (statement 7 None 0 0 (stmt.Read true) [] []) ∷
-      (statement 8 None 0 0 (stmt.Read false) ((node (op.Effect (effect.ReadInteger (negsuc 32766) (pos 32767))) ((global 1) ∷ [])) ∷ []) []) ∷ [])))
+    (statement 5 None 0 0 (stmt.Read false) ((node (op.Effect (effect.ReadInteger (negsuc 32766) (pos 32767))) ((global 1) ∷ [])) ∷ (node (op.Effect (effect.ReadChar (pos 0) (pos 127))) ((global 0) ∷ [])) ∷ []) []) ∷
+    (statement 6 None 0 0 (stmt.Write true) ((node (op.Effect (effect.Write written.Integer true)) ((two word.Add (value (global 1)) (number (pos 1))) ∷ (number (pos 4)) ∷ [])) ∷ (node (op.Effect (effect.Write written.Char false)) ((value (global 0)) ∷ [])) ∷ (node (op.Effect (effect.Write written.Boolean false)) ((node (op.Word word.Eoln) []) ∷ [])) ∷ []) []) ∷
+    (statement 7 None 0 0 (stmt.Read true) [] []) ∷
+    (statement 8 None 0 0 (stmt.Read false) ((node (op.Effect (effect.ReadInteger (negsuc 32766) (pos 32767))) ((global 1) ∷ [])) ∷ []) []) ∷ [])))
 
 abbrev P : Program
 P = program_of source

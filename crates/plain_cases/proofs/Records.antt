@@ -21,23 +21,23 @@ use Rattle.plain_cases.specs.Build.{node, integers, global, local, reference, va
 
 abbrev source : Routine
 source =
-  (routine 1 0 [] None [] (
-  (routine 6 1 (formal true (RecordOf (Field [] Integer (Field [] Integer NoField))) ∷ formal false (RecordOf (Field [] Integer (Field [] Integer NoField))) ∷ []) None [] []
+    (routine 1 0 [] None [] (
+    (routine 6 1 (formal true (RecordOf (Field [] Integer (Field [] Integer NoField))) ∷ formal false (RecordOf (Field [] Integer (Field [] Integer NoField))) ∷ []) None [] []
     (compound 7 None (
-      (statement 8 None 1 0 stmt.With ((node (op.Effect (effect.Hold 1 2)) ((reference 0 0 3) ∷ [])) ∷ []) (
-        (compound 9 None (
-          (statement 10 None 1 1 (stmt.Assign integers) ((node (op.Place (place.Held 1 0)) []) ∷ (value (node (op.Place (place.Field 1)) ((local 0 1 3) ∷ []))) ∷ []) []) ∷
-          (statement 11 None 1 1 (stmt.Assign integers) ((node (op.Place (place.Held 1 1)) []) ∷ (value (node (op.Place (place.Field 0)) ((local 0 1 3) ∷ []))) ∷ []) []) ∷ [])) ∷ [])) ∷
-      (statement 12 None 1 0 (stmt.Assign integers) ((node (op.Place (place.Field 0)) ((local 0 1 3) ∷ [])) ∷ (number (pos 9)) ∷ []) []) ∷ []))) ∷ [])
+    (statement 8 None 1 0 stmt.With ((node (op.Effect (effect.Hold 1 2)) ((reference 0 0 3) ∷ [])) ∷ []) (
+    (compound 9 None (
+    (statement 10 None 1 1 (stmt.Assign integers) ((node (op.Place (place.Held 1 0)) []) ∷ (value (node (op.Place (place.Field 1)) ((local 0 1 3) ∷ []))) ∷ []) []) ∷
+    (statement 11 None 1 1 (stmt.Assign integers) ((node (op.Place (place.Held 1 1)) []) ∷ (value (node (op.Place (place.Field 0)) ((local 0 1 3) ∷ []))) ∷ []) []) ∷ [])) ∷ [])) ∷
+    (statement 12 None 1 0 (stmt.Assign integers) ((node (op.Place (place.Field 0)) ((local 0 1 3) ∷ [])) ∷ (number (pos 9)) ∷ []) []) ∷ []))) ∷ [])
     (compound 13 None (
-      (statement 14 None 0 0 (stmt.Assign integers) ((global 8) ∷ (number (pos 2)) ∷ []) []) ∷
-      (statement 15 None 0 0 stmt.With ((node (op.Effect (effect.Hold 1 2)) ((node (op.Place (place.Index (pos 1) (pos 3) 2)) ((global 0) ∷ (value (global 8)) ∷ [])) ∷ [])) ∷ []) (
-        (compound 16 None (
-          (statement 17 None 0 1 (stmt.Assign integers) ((global 8) ∷ (number (pos 3)) ∷ []) []) ∷
-          (statement 18 None 0 1 (stmt.Assign integers) ((node (op.Place (place.Held 1 0)) []) ∷ (number (pos 4)) ∷ []) []) ∷
-          (statement 19 None 0 1 (stmt.Assign integers) ((node (op.Place (place.Held 1 1)) []) ∷ (number (pos 5)) ∷ []) []) ∷ [])) ∷ [])) ∷
-      (statement 20 None 0 0 stmt.Call ((node (op.Call (record { routine = record { 0 = 6 }; scope = scope.Program; function = false })) ((node op.ActualVariable ((global 6) ∷ [])) ∷ (node (op.Argument (storage.Structure 2)) ((node op.Structure ((node (op.Place (place.Index (pos 1) (pos 3) 2)) ((global 0) ∷ (number (pos 2)) ∷ [])) ∷ [])) ∷ [])) ∷ [])) ∷ []) []) ∷
-      (statement 21 None 0 0 (stmt.Write true) ((node (op.Effect (effect.Write written.Integer true)) ((value (node (op.Place (place.Field 0)) ((global 6) ∷ []))) ∷ (number (pos 1)) ∷ [])) ∷ (node (op.Effect (effect.Write written.Integer true)) ((value (node (op.Place (place.Field 1)) ((global 6) ∷ []))) ∷ (number (pos 2)) ∷ [])) ∷ (node (op.Effect (effect.Write written.Integer true)) ((value (node (op.Place (place.Field 0)) ((node (op.Place (place.Index (pos 1) (pos 3) 2)) ((global 0) ∷ (number (pos 2)) ∷ [])) ∷ []))) ∷ (number (pos 2)) ∷ [])) ∷ (node (op.Effect (effect.Write written.Integer true)) ((value (global 8)) ∷ (number (pos 2)) ∷ [])) ∷ []) []) ∷ [])))
+    (statement 14 None 0 0 (stmt.Assign integers) ((global 8) ∷ (number (pos 2)) ∷ []) []) ∷
+    (statement 15 None 0 0 stmt.With ((node (op.Effect (effect.Hold 1 2)) ((node (op.Place (place.Index (pos 1) (pos 3) 2)) ((global 0) ∷ (value (global 8)) ∷ [])) ∷ [])) ∷ []) (
+    (compound 16 None (
+    (statement 17 None 0 1 (stmt.Assign integers) ((global 8) ∷ (number (pos 3)) ∷ []) []) ∷
+    (statement 18 None 0 1 (stmt.Assign integers) ((node (op.Place (place.Held 1 0)) []) ∷ (number (pos 4)) ∷ []) []) ∷
+    (statement 19 None 0 1 (stmt.Assign integers) ((node (op.Place (place.Held 1 1)) []) ∷ (number (pos 5)) ∷ []) []) ∷ [])) ∷ [])) ∷
+    (statement 20 None 0 0 stmt.Call ((node (op.Call (record { routine = record { 0 = 6 }; scope = scope.Program; function = false })) ((node op.ActualVariable ((global 6) ∷ [])) ∷ (node (op.Argument (storage.Structure 2)) ((node op.Structure ((node (op.Place (place.Index (pos 1) (pos 3) 2)) ((global 0) ∷ (number (pos 2)) ∷ [])) ∷ [])) ∷ [])) ∷ [])) ∷ []) []) ∷
+    (statement 21 None 0 0 (stmt.Write true) ((node (op.Effect (effect.Write written.Integer true)) ((value (node (op.Place (place.Field 0)) ((global 6) ∷ []))) ∷ (number (pos 1)) ∷ [])) ∷ (node (op.Effect (effect.Write written.Integer true)) ((value (node (op.Place (place.Field 1)) ((global 6) ∷ []))) ∷ (number (pos 2)) ∷ [])) ∷ (node (op.Effect (effect.Write written.Integer true)) ((value (node (op.Place (place.Field 0)) ((node (op.Place (place.Index (pos 1) (pos 3) 2)) ((global 0) ∷ (number (pos 2)) ∷ [])) ∷ []))) ∷ (number (pos 2)) ∷ [])) ∷ (node (op.Effect (effect.Write written.Integer true)) ((value (global 8)) ∷ (number (pos 2)) ∷ [])) ∷ []) []) ∷ [])))
 
 abbrev P : Program
 P = program_of source

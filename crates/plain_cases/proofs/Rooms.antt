@@ -17,14 +17,14 @@ use Rattle.plain_cases.specs.Build.{node, two, integers, local, value, number, c
 
 abbrev source : Routine
 source =
-  (routine 1 0 [] None [] (
-  (routine 2 1 (formal false Integer ∷ []) None (variable (ArrayOf (Subrange Integer (pos 1) (pos 17)) Integer) ∷ []) []
+    (routine 1 0 [] None [] (
+    (routine 2 1 (formal false Integer ∷ []) None (variable (ArrayOf (Subrange Integer (pos 1) (pos 17)) Integer) ∷ []) []
     (compound 4 None (
-      (statement 5 None 1 0 (stmt.If false) ((node (op.Word (word.Compare relation.Greater)) ((value (local 0 0 18)) ∷ (number (pos 1)) ∷ [])) ∷ []) (
-        (statement 6 None 1 0 stmt.Call ((node (op.Call (record { routine = record { 0 = 2 }; scope = scope.Program; function = false })) ((node (op.Argument integers) ((two word.Subtract (value (local 0 0 18)) (number (pos 1))) ∷ [])) ∷ [])) ∷ []) []) ∷ [])) ∷ []))) ∷ [])
+    (statement 5 None 1 0 (stmt.If false) ((node (op.Word (word.Compare relation.Greater)) ((value (local 0 0 18)) ∷ (number (pos 1)) ∷ [])) ∷ []) (
+    (statement 6 None 1 0 stmt.Call ((node (op.Call (record { routine = record { 0 = 2 }; scope = scope.Program; function = false })) ((node (op.Argument integers) ((two word.Subtract (value (local 0 0 18)) (number (pos 1))) ∷ [])) ∷ [])) ∷ []) []) ∷ [])) ∷ []))) ∷ [])
     (compound 7 None (
-      (statement 8 None 0 0 stmt.Call ((node (op.Call (record { routine = record { 0 = 2 }; scope = scope.Program; function = false })) ((node (op.Argument integers) ((number (pos 109)) ∷ [])) ∷ [])) ∷ []) []) ∷
-      (statement 9 None 0 0 stmt.Call ((node (op.Call (record { routine = record { 0 = 2 }; scope = scope.Program; function = false })) ((node (op.Argument integers) ((number (pos 110)) ∷ [])) ∷ [])) ∷ []) []) ∷ [])))
+    (statement 8 None 0 0 stmt.Call ((node (op.Call (record { routine = record { 0 = 2 }; scope = scope.Program; function = false })) ((node (op.Argument integers) ((number (pos 109)) ∷ [])) ∷ [])) ∷ []) []) ∷
+    (statement 9 None 0 0 stmt.Call ((node (op.Call (record { routine = record { 0 = 2 }; scope = scope.Program; function = false })) ((node (op.Argument integers) ((number (pos 110)) ∷ [])) ∷ [])) ∷ []) []) ∷ [])))
 
 abbrev P : Program
 P = program_of source

@@ -20,17 +20,17 @@ use Rattle.plain_cases.specs.Build.{node, global, local, value, number, compound
 
 abbrev source : Routine
 source =
-  (routine 1 0 [] None [] (
-  (routine 4 1 (formal false (SetOf (Subrange Integer (pos 0) (pos 9))) ∷ []) None (variable Integer ∷ []) []
+    (routine 1 0 [] None [] (
+    (routine 4 1 (formal false (SetOf (Subrange Integer (pos 0) (pos 9))) ∷ []) None (variable Integer ∷ []) []
     (compound 6 None (
-      (statement 7 None 1 0 (stmt.For (record { variable = (record { scope = (scope.Routine 0); offset = 8; by_place = false; frame_words = 9 }); first = negsuc 32766; last = pos 32767; down = false })) ((number (pos 0)) ∷ (number (pos 9)) ∷ []) (
-        (statement 8 None 1 1 (stmt.If false) ((node (op.Word word.In) ((value (local 0 8 9)) ∷ (node (op.Set set.Load) ((local 0 0 9) ∷ [])) ∷ [])) ∷ []) (
-          (statement 9 None 1 1 (stmt.Write false) ((node (op.Effect (effect.Write written.Integer true)) ((value (local 0 8 9)) ∷ (number (pos 2)) ∷ [])) ∷ []) []) ∷ [])) ∷ [])) ∷ []))) ∷ [])
+    (statement 7 None 1 0 (stmt.For (record { variable = (record { scope = (scope.Routine 0); offset = 8; by_place = false; frame_words = 9 }); first = negsuc 32766; last = pos 32767; down = false })) ((number (pos 0)) ∷ (number (pos 9)) ∷ []) (
+    (statement 8 None 1 1 (stmt.If false) ((node (op.Word word.In) ((value (local 0 8 9)) ∷ (node (op.Set set.Load) ((local 0 0 9) ∷ [])) ∷ [])) ∷ []) (
+    (statement 9 None 1 1 (stmt.Write false) ((node (op.Effect (effect.Write written.Integer true)) ((value (local 0 8 9)) ∷ (number (pos 2)) ∷ [])) ∷ []) []) ∷ [])) ∷ [])) ∷ []))) ∷ [])
     (compound 10 None (
-      (statement 11 None 0 0 (stmt.Assign (storage.Set 0 9)) ((global 0) ∷ (node (op.Set set.Difference) ((node (op.Set set.IncludeRange) ((node (op.Set set.Include) ((node (op.Set set.Empty) []) ∷ (number (pos 1)) ∷ [])) ∷ (number (pos 3)) ∷ (number (pos 5)) ∷ [])) ∷ (node (op.Set set.Include) ((node (op.Set set.Empty) []) ∷ (number (pos 4)) ∷ [])) ∷ [])) ∷ []) []) ∷
-      (statement 12 None 0 0 stmt.Call ((node (op.Call (record { routine = record { 0 = 4 }; scope = scope.Program; function = false })) ((node (op.Argument (storage.Set 0 9)) ((node (op.Set set.Union) ((node (op.Set set.Load) ((global 0) ∷ [])) ∷ (node (op.Set set.Include) ((node (op.Set set.Empty) []) ∷ (number (pos 9)) ∷ [])) ∷ [])) ∷ [])) ∷ [])) ∷ []) []) ∷
-      (statement 13 None 0 0 stmt.Call ((node (op.Call (record { routine = record { 0 = 4 }; scope = scope.Program; function = false })) ((node (op.Argument (storage.Set 0 9)) ((node (op.Set set.Intersection) ((node (op.Set set.Load) ((global 0) ∷ [])) ∷ (node (op.Set set.IncludeRange) ((node (op.Set set.Empty) []) ∷ (number (pos 0)) ∷ (number (pos 3)) ∷ [])) ∷ [])) ∷ [])) ∷ [])) ∷ []) []) ∷
-      (statement 14 None 0 0 (stmt.Write true) [] []) ∷ [])))
+    (statement 11 None 0 0 (stmt.Assign (storage.Set 0 9)) ((global 0) ∷ (node (op.Set set.Difference) ((node (op.Set set.IncludeRange) ((node (op.Set set.Include) ((node (op.Set set.Empty) []) ∷ (number (pos 1)) ∷ [])) ∷ (number (pos 3)) ∷ (number (pos 5)) ∷ [])) ∷ (node (op.Set set.Include) ((node (op.Set set.Empty) []) ∷ (number (pos 4)) ∷ [])) ∷ [])) ∷ []) []) ∷
+    (statement 12 None 0 0 stmt.Call ((node (op.Call (record { routine = record { 0 = 4 }; scope = scope.Program; function = false })) ((node (op.Argument (storage.Set 0 9)) ((node (op.Set set.Union) ((node (op.Set set.Load) ((global 0) ∷ [])) ∷ (node (op.Set set.Include) ((node (op.Set set.Empty) []) ∷ (number (pos 9)) ∷ [])) ∷ [])) ∷ [])) ∷ [])) ∷ []) []) ∷
+    (statement 13 None 0 0 stmt.Call ((node (op.Call (record { routine = record { 0 = 4 }; scope = scope.Program; function = false })) ((node (op.Argument (storage.Set 0 9)) ((node (op.Set set.Intersection) ((node (op.Set set.Load) ((global 0) ∷ [])) ∷ (node (op.Set set.IncludeRange) ((node (op.Set set.Empty) []) ∷ (number (pos 0)) ∷ (number (pos 3)) ∷ [])) ∷ [])) ∷ [])) ∷ [])) ∷ []) []) ∷
+    (statement 14 None 0 0 (stmt.Write true) [] []) ∷ [])))
 
 abbrev P : Program
 P = program_of source

@@ -17,15 +17,15 @@ use Rattle.plain_cases.specs.Build.{node, two, integers, global, value, number, 
 
 abbrev source : Routine
 source =
-  (routine 1 0 [] None [] []
+    (routine 1 0 [] None [] []
     (compound 3 None (
-      (statement 4 None 0 0 (stmt.Assign integers) ((global 0) ∷ (number (pos 0)) ∷ []) []) ∷
-      (statement 5 None 0 0 (stmt.Assign integers) ((global 1) ∷ (number (pos 0)) ∷ []) []) ∷
-      (statement 6 None 0 0 stmt.While ((node (op.Word (word.Compare relation.Less)) ((value (global 0)) ∷ (number (pos 5)) ∷ [])) ∷ []) (
-        (compound 7 None (
-          (statement 8 None 0 0 (stmt.Assign integers) ((global 1) ∷ (two word.Add (value (global 1)) (value (global 0))) ∷ []) []) ∷
-          (statement 9 None 0 0 (stmt.Assign integers) ((global 0) ∷ (two word.Add (value (global 0)) (number (pos 1))) ∷ []) []) ∷ [])) ∷ [])) ∷
-      (statement 10 None 0 0 (stmt.Write true) ((node (op.Effect (effect.Write written.Integer true)) ((value (global 1)) ∷ (number (pos 1)) ∷ [])) ∷ []) []) ∷ [])))
+    (statement 4 None 0 0 (stmt.Assign integers) ((global 0) ∷ (number (pos 0)) ∷ []) []) ∷
+    (statement 5 None 0 0 (stmt.Assign integers) ((global 1) ∷ (number (pos 0)) ∷ []) []) ∷
+    (statement 6 None 0 0 stmt.While ((node (op.Word (word.Compare relation.Less)) ((value (global 0)) ∷ (number (pos 5)) ∷ [])) ∷ []) (
+    (compound 7 None (
+    (statement 8 None 0 0 (stmt.Assign integers) ((global 1) ∷ (two word.Add (value (global 1)) (value (global 0))) ∷ []) []) ∷
+    (statement 9 None 0 0 (stmt.Assign integers) ((global 0) ∷ (two word.Add (value (global 0)) (number (pos 1))) ∷ []) []) ∷ [])) ∷ [])) ∷
+    (statement 10 None 0 0 (stmt.Write true) ((node (op.Effect (effect.Write written.Integer true)) ((value (global 1)) ∷ (number (pos 1)) ∷ [])) ∷ []) []) ∷ [])))
 
 abbrev P : Program
 P = program_of source

@@ -1,16 +1,14 @@
 -- A call keeps a state in order.
-use Rattle.std.proofs.Common.{◌≡◌, ℕ, zero, suc, ◌+◌, ◌-◌, ◌<◌, ◌≤◌, Bool, true, false, List, [], ◌∷◌, ◌++◌, length, Option, Some, None, refl, sym, ap, ◌∙◌, subst, arith, inl, inr}
+use Rattle.std.proofs.Common.{◌≡◌, ℕ, suc, List, [], ◌∷◌, ◌++◌, length, Some, None, refl, sym, ap, ◌∙◌, subst, arith, inl, inr}
 use Rattle.std.specs.Prelude.{◌⊎◌}
-use Rattle.core_tree.specs.declared.op.Op.{Op}
 use Rattle.core_tree.specs.declared.op.Op.TheVariants as op
 use Rattle.core_tree.specs.declared.op.Callee.{Callee}
-use Rattle.core_tree.specs.declared.form.RoutineForm.{RoutineForm}
 use Rattle.core_tree.specs.Plain.{Operation, Exprs, part_at}
-use Rattle.plain_pascal.specs.Program.{Kind, Row, RoutineRow, Program, row_of, routine_of}
-use Rattle.plain_pascal.specs.State.{Value, Node, OfStatement, OfExpr, PendingFrame, Activation, Data, Control}
+use Rattle.plain_pascal.specs.Program.{Kind, Row, RoutineRow, Program, routine_of}
+use Rattle.plain_pascal.specs.State.{Value, OfStatement, OfExpr, PendingFrame, Activation, Data, Control}
 use Rattle.plain_pascal.specs.Step.{frame_words, parent_of}
 use Rattle.plain_pascal.specs.Typed.{slots_of, slots_in, argument_kinds, IsOp, IsCall, IsScopeOf}
-use Rattle.plain_pascal.specs.Valid.{AreOf, AreFrames, AtStatement, IsActivation, NewestStands, AllWait, IsData, IsProgram}
+use Rattle.plain_pascal.specs.Valid.{AreOf, AreFrames, AtStatement, IsActivation, NewestStands, IsData, IsProgram}
 use Rattle.plain_pascal.proofs.Kept.{as_many}
 use Rattle.plain_pascal.proofs.Keeps.{some_part}
 use Rattle.plain_pascal.proofs.Scopes.{standing_all}

@@ -1,7 +1,7 @@
 -- In the table of a program whose names differ, each link has its end: the steps and ends on the way after a statement are
 -- those of the statements around it.
-use Rattle.std.proofs.Common.{◌≡◌, ℕ, List, [], ◌∷◌, ◌++◌, Option, Some, None, refl, ap}
-use Rattle.std.specs.Prelude.{◌==◌, find, slice_index}
+use Rattle.std.proofs.Common.{◌≡◌, ℕ, List, [], Option, Some, None, refl, ap}
+use Rattle.std.specs.Prelude.{slice_index}
 use Rattle.std.specs.List.{AllByRecursion}
 use Rattle.core_tree.specs.declared.form.StatementOp.{StatementOp}
 use Rattle.core_tree.specs.declared.form.StatementOp.TheVariants as stmt

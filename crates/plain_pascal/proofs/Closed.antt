@@ -1,10 +1,9 @@
 -- The program of a table is closed: each link that a block has leads to a part that its end has.
-use Rattle.std.proofs.Common.{◌≡◌, ℕ, zero, suc, ◌<◌, Bool, true, false, List, [], ◌∷◌, ◌++◌, Option, Some, None, option_map, refl, sym, ap, ◌∙◌, subst, arith, inl, inr}
-use Rattle.std.specs.Prelude.{◌⊎◌, slice_index, find, ◌==◌, if◌then◌else◌}
+use Rattle.std.proofs.Common.{◌≡◌, ℕ, zero, suc, ◌<◌, true, List, [], Option, Some, None, option_map, refl, sym, ap, ◌∙◌, subst, arith, inl, inr}
+use Rattle.std.specs.Prelude.{slice_index}
 use Rattle.std.specs.List.{AllByRecursion}
 use Rattle.dice_base.specs.declared.link.LinkTo.{LinkTo}
 use Rattle.dice_base.specs.declared.link.LinkTo.TheVariants.{Next, Child, Label, Routine as ToRoutine}
-use Rattle.dice_base.specs.declared.name.Name.{Name}
 use Rattle.core_tree.specs.declared.form.StatementOp.{StatementOp}
 use Rattle.core_tree.specs.declared.form.StatementOp.TheVariants as stmt
 use Rattle.core_tree.specs.declared.form.RoutineForm.{RoutineForm}
@@ -16,7 +15,7 @@ use Rattle.plain_pascal.specs.Resolved.{IsWhole, AreWhole, begins_within, count,
 use Rattle.plain_pascal.specs.Program.{Program as Table, Row, RoutineRow, row_in, row_of, form_in, body_entry, routine_in, routine_of}
 use Rattle.plain_pascal.specs.Step.{label_gate, labels_in}
 use Rattle.plain_pascal.specs.Run.{entry_in}
-use Rattle.plain_pascal.specs.Blocks.{has_part, has_way, has_link, parts_call, is_for, is_with, pascal, gate, spot_of, routine_block, block_in, form_end, routine_end, way_end, blocks_of}
+use Rattle.plain_pascal.specs.Blocks.{has_part, has_way, has_link, is_for, is_with, pascal, gate, spot_of, routine_block, block_in, form_end, routine_end, way_end, blocks_of}
 use Rattle.plain_pascal.proofs.Named.{every_front, every_back, every_join, OfStatements, statement_found, OfRoutines, routine_found}
 use Rattle.plain_pascal.proofs.Stage.{HasPartIn, IsSpot}
 use Rattle.plain_pascal.proofs.Chains.{rows_of, inner_of, own_of, behind_of, behind_by, around_of, next_of, sequence_of, leaving, head_of, blocks_in, blocks_inside, row_at, first_of, no_row}

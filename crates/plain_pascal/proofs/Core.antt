@@ -2,13 +2,12 @@
 use Rattle.std.proofs.Common.{◌≡◌, ℕ, zero, suc, ◌+◌, ◌≤◌, List, [], ◌∷◌, length, Some, ap, ◌∙◌, refl, arith}
 use Rattle.core_tree.specs.Plain.{Expr, Operation, Exprs, NoMore, And, part_at, Form, Routine, Block}
 use Rattle.core_tree.specs.Control.{machine_rows, core_routines}
-use Rattle.plain_machine.specs.Meaning.{IsClosed}
 use Rattle.std.specs.List.{AllByRecursion}
 use Rattle.plain_pascal.specs.Resolved.{IsResolved}
 use Rattle.plain_pascal.proofs.Chains.{program_chains}
 use Rattle.plain_pascal.proofs.Closed.{IsClosedBlock, HasEntryListed, routine_closed, routine_entries, rows_close}
 use Rattle.plain_pascal.proofs.Placed.{IsTable}
-use Rattle.plain_pascal.specs.Program.{Program as Table, Row, program_of, row_of, routine_in}
+use Rattle.plain_pascal.specs.Program.{Program as Table, program_of}
 use Rattle.plain_pascal.specs.State.{Node, OfStatement, OfExpr, PendingFrame, Control}
 use Rattle.plain_pascal.specs.Step.{parts_of}
 use Rattle.plain_pascal.specs.Run.{steps_limit}

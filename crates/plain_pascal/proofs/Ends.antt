@@ -1,5 +1,5 @@
 -- How a statement is left is among the links of its form, and a call that waits is a call of its form.
-use Rattle.std.proofs.Common.{◌≡◌, ℕ, zero, suc, ◌+◌, Bool, true, false, List, [], ◌∷◌, ◌++◌, length, Option, Some, None, refl, sym, ap, ◌∙◌, subst, arith}
+use Rattle.std.proofs.Common.{◌≡◌, ℕ, zero, suc, Bool, true, false, List, [], ◌∷◌, ◌++◌, length, Option, Some, None, refl, sym, ap, ◌∙◌, subst, arith}
 use Rattle.std.specs.Prelude.{◌==◌, ◌||◌, ◌&&◌, if◌then◌else◌, find}
 use Rattle.std.proofs.lemmas.Bool.Decides.{nat_tests}
 use Rattle.dice_base.specs.declared.link.LinkTo.{LinkTo}
@@ -19,7 +19,7 @@ use Rattle.plain_pascal.specs.Operations.{value_of, part, first_word, first_numb
 use Rattle.plain_pascal.specs.Statements.{Effect, Does, Errs, effect_of, Behind, Inside, ToLabel, Exit, Leaves, Breaks, exit_of, with_checked, branch, other_branch, arm_of, is_past, given_cell, disposed, line_behind, went_on, assigned}
 use Rattle.plain_pascal.specs.Step.{parts_of}
 use Rattle.plain_pascal.specs.Evaluation.{Outcome, Comes, Stops, Calls, of_result, of_effect, of_operation, then_with, frame_with, evaluated, parts_evaluated, End, Left, Broken, Waits, of_exit, onward, carried_out, begun, parts_from, resumed_in, resumed}
-use Rattle.plain_pascal.proofs.Ticks.{IsRest, all_rest, here, length_one, rest_on, rest_from}
+use Rattle.plain_pascal.proofs.Ticks.{IsRest, all_rest, here, rest_on, rest_from}
 use Rattle.plain_pascal.specs.Blocks.{link_of, has_arm, has_way, op_calls, expr_calls, parts_call, has_link, node_at, next_part, AreInside, IsCall, BeginsInCall, IsPath, node_callee, callee}
 use Rattle.core_tree.specs.Plain.{StatementBlock}
 

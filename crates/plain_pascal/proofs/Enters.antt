@@ -1,25 +1,22 @@
 -- A routine is entered: its activation is one of the program, and those older keep what they have.
-use Rattle.std.proofs.Common.{◌≡◌, ℕ, zero, suc, ◌+◌, ◌-◌, ◌<◌, ◌≤◌, Bool, true, false, List, [], ◌∷◌, ◌++◌, map, length, Option, Some, None, refl, sym, ap, ◌∙◌, subst, arith, inl, inr}
-use Rattle.std.specs.Prelude.{◌⊎◌, drop, take, replicate, find, ◌==◌, if◌then◌else◌}
+use Rattle.std.proofs.Common.{◌≡◌, ℕ, zero, suc, ◌+◌, ◌-◌, ◌<◌, Bool, true, false, List, [], ◌∷◌, ◌++◌, map, length, Some, refl, sym, ap, ◌∙◌, subst, arith, inl}
+use Rattle.std.specs.Prelude.{drop, replicate}
 use Rattle.std.specs.List.{AllByRecursion}
-use Rattle.std.proofs.lemmas.Bool.Decides.{nat_tests}
-use Rattle.core_tree.specs.declared.op.Op.TheVariants as op
-use Rattle.core_tree.specs.declared.op.Callee.{Callee}
 use Rattle.core_tree.specs.declared.op.Scope.{Scope}
 use Rattle.core_tree.specs.declared.op.Scope.TheVariants as scope
 use Rattle.core_tree.specs.declared.form.RoutineForm.{RoutineForm}
 use Rattle.core_tree.specs.declared.form.Parameter.{Parameter}
 use Rattle.core_tree.specs.declared.form.Parameter.TheVariants as parameter
-use Rattle.plain_pascal.specs.Program.{Kind, NoKind, WordKind, SetKind, PlaceKind, Row, RoutineRow, Program, row_of, routine_of}
-use Rattle.plain_pascal.specs.State.{Place, Global, Local, Heap, Literal, Value, Word, Members, At, NoValue, Activation, Data, Control}
-use Rattle.plain_pascal.specs.Memory.{from_activation, linked_up, moved, word_at, words_at, place_in}
+use Rattle.plain_pascal.specs.Program.{Kind, WordKind, SetKind, PlaceKind, RoutineRow, Program}
+use Rattle.plain_pascal.specs.State.{Place, Value, Word, Members, At, NoValue, Activation, Data}
+use Rattle.plain_pascal.specs.Memory.{from_activation, linked_up, moved, words_at, place_in}
 use Rattle.plain_pascal.specs.Operations.{members_in}
-use Rattle.plain_pascal.specs.Step.{argument_words, arguments_words, result_words, frame_words, parent_of}
-use Rattle.plain_pascal.specs.Typed.{slots_of, slots_in, parameter_slots, argument_kinds, result_slots, scope_row, IsScopeOf}
-use Rattle.plain_pascal.specs.Valid.{IsWord, IsOf, AreOf, LiesIn, IsData, IsProgram, HasEntry, AtStatement, HasParent, IsActivation}
+use Rattle.plain_pascal.specs.Step.{arguments_words, result_words, frame_words, parent_of}
+use Rattle.plain_pascal.specs.Typed.{slots_in, parameter_slots, argument_kinds, result_slots, IsScopeOf}
+use Rattle.plain_pascal.specs.Valid.{IsWord, IsOf, AreOf, LiesIn, IsData, IsProgram, HasEntry, AtStatement}
 use Rattle.plain_pascal.proofs.Sound.{place_word}
 use Rattle.plain_pascal.proofs.Places.{moved_lies, shorter_lies, newer_lies}
-use Rattle.plain_pascal.proofs.Scopes.{AllActivations, Found, scope_found, all_from, drop_count}
+use Rattle.plain_pascal.proofs.Scopes.{AllActivations, Found, scope_found, drop_count}
 use Rattle.plain_pascal.proofs.Moves.{lies_grown}
 use Rattle.plain_pascal.proofs.Named.{row_named}
 

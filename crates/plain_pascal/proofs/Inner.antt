@@ -1,23 +1,32 @@
 -- Steps inside a statement, calls and returns keep a state in order.
 use Rattle.std.proofs.Common.{◌≡◌, ℕ, zero, suc, ◌+◌, ◌≤◌, Bool, true, false, nat_le, List, [], ◌∷◌, length, Option, Some, None, refl, sym, ap, ◌∙◌, subst, arith, inl, inr}
-use Rattle.std.specs.Prelude.{◌⊎◌, if◌then◌else◌, take, drop}
+use Rattle.std.specs.Prelude.{◌⊎◌, ℤ, pos, int_le, if◌then◌else◌, take, drop}
 use Rattle.std.proofs.lemmas.Bool.Decides.{nat_tests}
 use Rattle.core_tree.specs.declared.op.Op.{Op}
 use Rattle.core_tree.specs.declared.op.Op.TheVariants as op
 use Rattle.core_tree.specs.declared.op.Callee.{Callee}
 use Rattle.core_tree.specs.Plain.{Expr, Operation, Exprs, part_at}
-use Rattle.plain_pascal.specs.Program.{Program, Row, RoutineRow, row_of, routine_of}
-use Rattle.plain_pascal.specs.State.{Status, NotStarted, Halted, Ended, Failed, Value, Node, OfStatement, OfExpr, PendingFrame, Activation, Data, Control, State}
-use Rattle.plain_pascal.specs.Integers.{Result, Gives, Fails}
-use Rattle.plain_pascal.specs.Operations.{value_of}
-use Rattle.plain_pascal.specs.Step.{going, failed, refused, held_in, at_gate, called, completed, delivered, entered, evaluated, frame_of, frame_words, gate_passed, given, newest_words, parent_of, parts_of, returned, returned_frames, returned_in, returned_value, small_step, stack_charge, stack_charges, stack_room, stepped}
-use Rattle.plain_pascal.specs.Valid.{AtStatement, IsActivation, AllWait, NewestStands, Waits, IsData, IsWellFormed, IsProgram, IsInnerNode, AreInner, IsInside}
+use Rattle.plain_pascal.specs.Program.{Kind, WordKind, PlaceKind, Program, RoutineRow, row_of, routine_of}
+use Rattle.plain_pascal.specs.State.{Status, NotStarted, Halted, Ended, Failed, Place, Value, Word, Members, At, NoValue, Node, OfStatement, OfExpr, PendingFrame, Activation, Data, Control}
+use Rattle.plain_pascal.specs.Integers.{Result, Gives, Fails, within, word_of}
+use Rattle.plain_pascal.specs.Operations.{value_of, part, first_place, second_number, second_word}
+use Rattle.plain_pascal.specs.Step.{going, refused, held_in, at_gate, called, completed, delivered, effected, evaluated, frame_of, frame_words, gate_passed, given, newest_words, parent_of, parts_of, returned, returned_frames, returned_in, small_step, stack_charge, stack_charges, stack_room, stepped}
+use Rattle.plain_pascal.specs.Valid.{AreOf, IsInner, IsWord, LiesIn, AtStatement, IsActivation, AllWait, NewestStands, IsData, IsWellFormed, IsProgram, IsInnerNode, AreInner, IsInside}
 use Rattle.plain_pascal.specs.Laws.{InnerStepsKeep, AssignmentsKeep}
 use Rattle.plain_pascal.proofs.Evaluates.{IsPlain}
-use Rattle.plain_pascal.proofs.Keeps.{part_stands, value_stands}
+use Rattle.plain_pascal.proofs.Keeps.{part_stands, value_stands, effect_stands, effect_typed}
+use Rattle.plain_pascal.proofs.Inputs.{LeavesBytes, integer_bytes, character_bytes}
+use Rattle.plain_pascal.proofs.Sound.{GivesOf, ranged_sound}
+use Rattle.plain_pascal.proofs.Places.{shorter_lies}
 use Rattle.plain_pascal.proofs.Stays.{gate_stands, stands_alike}
-use Rattle.plain_pascal.proofs.Stores.{IsAfter, assigned_after}
-use Rattle.plain_pascal.specs.Statements.{assigned}
+use Rattle.plain_pascal.proofs.Stores.{IsAfter, assigned_after, word_after}
+use Rattle.plain_pascal.specs.Statements.{Does, Errs, assigned, effect_of, read_into, text_of, wrote, write_in}
+use Rattle.plain_pascal.specs.Memory.{with_word}
+use Rattle.plain_pascal.specs.Reading.{Reading, Read, Unread, integer_read, character_read}
+use Rattle.plain_pascal.specs.Typed.{IsEffect}
+use Rattle.core_tree.specs.declared.op.EffectOp.{EffectOp}
+use Rattle.core_tree.specs.declared.op.EffectOp.TheVariants as effect
+use Rattle.core_tree.specs.declared.op.Written.{Written}
 use Rattle.plain_pascal.proofs.CallKeeps.{call_stands}
 use Rattle.plain_pascal.proofs.Moves.{return_stands}
 
@@ -75,10 +84,70 @@ module _ (P : Program) (program : IsProgram P) (d : Data) (good : IsData d) wher
         by None e = well n (f ∷ fs) cs (a ∷ xs) same h
         by (Some r) e = entering r e (nat_le (stack_charges d.activations + stack_charge (frame_words d r.form kept)) stack_room) refl
 
+    -- what is written changes the output alone
+    wrote_data : (text : List ℕ) → IsData (wrote text d)
+    wrote_data text = record { globals_long = good.globals_long; globals_words = good.globals_words; heap_long = good.heap_long; heap_words = good.heap_words; used = good.used; cells = good.cells; stack = good.stack; input = good.input }
+
+    abbrev Stood : List PendingFrame → Type 0
+    Stood fs = NewestStands P d.activations (record { statement = n; frames = fs } ∷ cs) d.activations
+
+    wrote_well : (text : List ℕ) (fs : List PendingFrame) → Stood (given NoValue fs) → IsWellFormed P (effected (Does (wrote text d)) n fs cs)
+    wrote_well text fs h = record { data_good = wrote_data text; stands = h }
+
+    write_well : (wide : Bool) (what : Written) (kept : List Value) (fs : List PendingFrame) → Stood (given NoValue fs) → IsWellFormed P (effected (write_in wide what kept d) n fs cs)
+    write_well false what kept fs h = wrote_well _ fs h
+    write_well true what kept fs h = by (within (pos 1) (pos 255) (second_number kept))
+      where
+        by : (b : Bool) → IsWellFormed P (effected (if b then Does (wrote (text_of what (part kept 0) (second_word kept) d) d) else Errs 11 d) n fs cs)
+        by true = wrote_well (text_of what (part kept 0) (second_word kept) d) fs h
+        by false = record { data_good = good; stands = tt }
+
+    read_well : (first last : ℤ) (p : Place) (whole : ℕ) (fs : List PendingFrame) → LiesIn d.activations (length xs) p whole → 1 ≤ whole → int_le last (pos 32767) ≡ true → Stood (given NoValue fs)
+        → (r : Reading) → LeavesBytes r → IsWellFormed P (effected (read_into first last p r d) n fs cs)
+    read_well first last p whole fs lies some le h (Unread e) bytes = record { data_good = good; stands = tt }
+    read_well first last p whole fs lies some le h (Read z rest) bytes = by (within first last z) refl
+      where
+        taken : Data
+        taken = record d { input = rest }
+
+        taken_data : IsData (record d { input = rest })
+        taken_data = record { globals_long = good.globals_long; globals_words = good.globals_words; heap_long = good.heap_long; heap_words = good.heap_words; used = good.used; cells = good.cells; stack = good.stack; input = bytes }
+
+        by : (b : Bool) → within first last z ≡ b → IsWellFormed P (effected (if b then Does (with_word (record d { input = rest }) p (word_of z)) else Errs 1 (record d { input = rest })) n fs cs)
+        by false e = record { data_good = taken_data; stands = tt }
+        by true e =
+            let small : IsWord (word_of z) = subst (λ b. GivesOf d.activations (length xs) WordKind (if b then Gives (Word (word_of z)) else Fails 1)) e (ranged_sound d.activations (length xs) 1 first last z le) in
+            let after : IsAfter (record d { input = rest }) (with_word (record d { input = rest }) p (word_of z)) = word_after (record d { input = rest }) (length xs) p (word_of z) taken_data (shorter_lies d.activations (length xs) p 1 whole lies some) small in
+            record {
+              data_good = after.good;
+              stands = stands_alike P d.activations (with_word (record d { input = rest }) p (word_of z)).activations after.alike (record { statement = n; frames = given NoValue fs } ∷ cs) d.activations (with_word (record d { input = rest }) p (word_of z)).activations after.alike h;
+            }
+
+    first_lies : (whole : ℕ) (kept : List Value) → AreOf (a ∷ xs) (length xs) (PlaceKind whole ∷ []) kept → LiesIn d.activations (length xs) (first_place kept) whole
+    first_lies whole [] h = absurd h
+    first_lies whole (At p ∷ vs) h = subst (λ ys. LiesIn ys (length xs) p whole) (sym same) h.0
+    first_lies whole (Word w ∷ vs) h = absurd h.0
+    first_lies whole (Members ws ∷ vs) h = absurd h.0
+    first_lies whole (NoValue ∷ vs) h = absurd h.0
+
+    effect_by : (e : EffectOp) (kept : List Value) (fs : List PendingFrame) (done : List Kind) → IsInner (op.Effect e) → IsEffect e done → AreOf (a ∷ xs) (length xs) done kept → Stood (given NoValue fs) → IsWellFormed P (effected (effect_of e kept d) n fs cs)
+    effect_by (effect.Hold number words) kept fs done i t ho h = absurd i
+    effect_by (effect.Write what wide) kept fs done i t ho h = write_well wide what kept fs h
+    effect_by (effect.ReadInteger first last) kept fs (PlaceKind whole ∷ []) i t ho h = read_well first last (first_place kept) whole fs (first_lies whole kept ho) t.0 t.1 h (integer_read d.input) (integer_bytes d.input good.input)
+    effect_by (effect.ReadInteger first last) kept fs done i t ho h = absurd t
+    effect_by (effect.ReadChar first last) kept fs (PlaceKind whole ∷ []) i t ho h = read_well first last (first_place kept) whole fs (first_lies whole kept ho) t.0 t.1 h (character_read d.input) (character_bytes d.input good.input)
+    effect_by (effect.ReadChar first last) kept fs done i t ho h = absurd t
+
+    effect_well : (e : EffectOp) (ps : Exprs) (kept : List Value) (fs : List PendingFrame) → IsInner (op.Effect e) → part_at ps (length kept) ≡ None → Stand (record { node = OfExpr (Operation (op.Effect e) ps); kept = kept } ∷ fs)
+        → IsWellFormed P (effected (effect_of e kept d) n fs cs)
+    effect_well e ps kept fs i full h =
+        let (done, t, ho) = effect_typed P program n cs d good a xs same e ps kept fs full h in
+        effect_by e kept fs done i t ho (subst (λ ys. NewestStands P ys (record { statement = n; frames = given NoValue fs } ∷ cs) ys) (sym same) (effect_stands P program n cs d good a xs same e ps kept fs full h))
+
     operation_well : (x : Node) (kept : List Value) (fs : List PendingFrame) → part_at (parts_of x) (length kept) ≡ None → Stand (record { node = x; kept = kept } ∷ fs) → IsInnerNode None x
         → IsWellFormed P (completed P x (record { node = x; kept = kept }) n fs cs d)
     operation_well (OfStatement f) kept fs full h i = absurd i
-    operation_well (OfExpr (Operation (op.Effect e) ps)) kept fs full h i = absurd i
+    operation_well (OfExpr (Operation (op.Effect e) ps)) kept fs full h i = effect_well e ps kept fs i full h
     operation_well (OfExpr (Operation (op.Call c) ps)) kept fs full h i = call_well c ps kept fs full h
     operation_well (OfExpr (Operation (op.Place p) ps)) kept fs full h i = value_well (op.Place p) ps kept fs tt full h
     operation_well (OfExpr (Operation (op.Word w) ps)) kept fs full h i = value_well (op.Word w) ps kept fs tt full h

@@ -3,12 +3,14 @@ use Rattle.std.proofs.Common.{◌≡◌, ℕ, List, [], ◌∷◌, ◌++◌, len
 use Rattle.std.specs.Prelude.{◌⊎◌}
 use Rattle.core_tree.specs.declared.op.Op.{Op}
 use Rattle.core_tree.specs.Plain.{Expr, Operation, Exprs, NoMore, And, part_at}
-use Rattle.plain_pascal.specs.Program.{Kind, Row, Program, row_of}
-use Rattle.plain_pascal.specs.State.{Value, OfStatement, OfExpr, PendingFrame, Activation, Data, Control}
+use Rattle.plain_pascal.specs.Program.{Kind, NoKind, WordKind, SetKind, PlaceKind, Row, Program, row_of}
+use Rattle.plain_pascal.specs.State.{Value, NoValue, OfStatement, OfExpr, PendingFrame, Activation, Data, Control}
 use Rattle.plain_pascal.specs.Integers.{Gives}
 use Rattle.plain_pascal.specs.Operations.{newest_holds, value_of}
 use Rattle.plain_pascal.specs.Step.{given, frame_of, parts_of}
-use Rattle.plain_pascal.specs.Typed.{AreExprs, each, IsOp}
+use Rattle.plain_pascal.specs.Typed.{AreExprs, each, IsEffect, IsOp}
+use Rattle.core_tree.specs.declared.op.EffectOp.{EffectOp}
+use Rattle.core_tree.specs.declared.op.Op.TheVariants as op
 use Rattle.plain_pascal.specs.Valid.{IsOf, AreOf, AreFrames, AtStatement, NewestStands, IsData, IsProgram}
 use Rattle.plain_pascal.proofs.Sound.{GivesOf}
 use Rattle.plain_pascal.proofs.Places.{Scoped}
@@ -80,19 +82,17 @@ module _ (P : Program) (program : IsProgram P) (n : ℕ) (cs : List Control) (d 
   nothing_more [] = refl
   nothing_more (k ∷ done) = ap (λ x. k ∷ x) (nothing_more done)
 
-  -- an operation without effect has its value
-  pub value_stands : (o : Op) (ps : Exprs) (kept : List Value) (fs : List PendingFrame) (v : Value) → IsPlain o → part_at ps (length kept) ≡ None → value_of o kept d ≡ Gives v
+  -- an operation that has its parts gives a value to the frame outside, and tells the kinds of its parts
+  pub operation_stands : (o : Op) (ps : Exprs) (kept : List Value) (fs : List PendingFrame) (v : Value) → part_at ps (length kept) ≡ None
+      → ((row : Row) (k : Kind) (done : List Kind) → Sees P d newest row → IsOp P row.routine row.around o done k → AreOf acts newest done kept → IsOf acts newest k v)
       → Stands (record { node = OfExpr (Operation o ps); kept = kept } ∷ fs) → Stands (given v fs)
-  value_stands o ps kept fs v plain full value h = in_place f fs (given v fs) h (λ row rest r sees fr. by row rest fs sees fr)
+  operation_stands o ps kept fs v full gives h = in_place f fs (given v fs) h (λ row rest r sees fr. by row rest fs sees fr)
     where
       f : PendingFrame
       f = record { node = OfExpr (Operation o ps); kept = kept }
 
       is_of : (row : Row) (k : Kind) (done : List Kind) → Sees P d newest row → IsOp P row.routine row.around o (done ++ []) k → AreOf acts newest done kept → IsOf acts newest k v
-      is_of row k done sees t ho =
-          subst (λ ys. IsOf ys newest k v) same
-          (subst (GivesOf d.activations newest k) value
-          (value_sound P d newest row sees o done k kept plain (subst (λ x. IsOp P row.routine row.around o x k) (nothing_more done) t) (subst (λ ys. AreOf ys newest done kept) (sym same) ho)))
+      is_of row k done sees t ho = gives row k done sees (subst (λ x. IsOp P row.routine row.around o x k) (nothing_more done) t) ho
 
       by : (row : Row) (rest : List Kind) (gs : List PendingFrame) → Sees P d newest row → AreFrames P acts newest row rest (f ∷ gs) → (more : List Kind) × AreFrames P acts newest row more (given v gs)
       by row rest [] sees fr = absurd (let clash : OfExpr (Operation o ps) ≡ OfStatement row.form = fr.0 in grind (arith, clash))
@@ -103,3 +103,55 @@ module _ (P : Program) (program : IsProgram P) (n : ℕ) (cs : List Control) (d 
           let inner : OfExpr (Operation o ps) ≡ OfExpr (Operation fr.0 fr.1) = fr.4 in
           let op_same : fr.0 ≡ o = cc inner in
           (fr.3, value_keeps P acts newest row fr.2 fr.3 (g ∷ gs) v (is_of row fr.2 fr.5.0 sees (subst (λ x. IsOp P row.routine row.around x (fr.5.0 ++ []) fr.2) op_same fr.5.3) fr.5.2) fr.6)
+
+  -- an operation without effect has its value
+  pub value_stands : (o : Op) (ps : Exprs) (kept : List Value) (fs : List PendingFrame) (v : Value) → IsPlain o → part_at ps (length kept) ≡ None → value_of o kept d ≡ Gives v
+      → Stands (record { node = OfExpr (Operation o ps); kept = kept } ∷ fs) → Stands (given v fs)
+  value_stands o ps kept fs v plain full value h =
+      operation_stands o ps kept fs v full
+      (λ row k done sees t ho. subst (λ ys. IsOf ys newest k v) same
+      (subst (GivesOf d.activations newest k) value (value_sound P d newest row sees o done k kept plain t (subst (λ ys. AreOf ys newest done kept) (sym same) ho)))) h
+
+  -- an effect has no value
+  effect_kind : (row : Row) (e : EffectOp) (k : Kind) (done : List Kind) → IsOp P row.routine row.around (op.Effect e) done k → IsOf acts newest k NoValue
+  effect_kind row e NoKind done t = tt
+  effect_kind row e WordKind done t = absurd t
+  effect_kind row e SetKind done t = absurd t
+  effect_kind row e (PlaceKind n) done t = absurd t
+
+  pub effect_stands : (e : EffectOp) (ps : Exprs) (kept : List Value) (fs : List PendingFrame) → part_at ps (length kept) ≡ None
+      → Stands (record { node = OfExpr (Operation (op.Effect e) ps); kept = kept } ∷ fs) → Stands (given NoValue fs)
+  effect_stands e ps kept fs full h = operation_stands (op.Effect e) ps kept fs NoValue full (λ row k done sees t ho. effect_kind row e k done t) h
+
+  effect_of_kind : (row : Row) (e : EffectOp) (k : Kind) (done : List Kind) → IsOp P row.routine row.around (op.Effect e) done k → IsEffect e done
+  effect_of_kind row e NoKind done t = t
+  effect_of_kind row e WordKind done t = absurd t
+  effect_of_kind row e SetKind done t = absurd t
+  effect_of_kind row e (PlaceKind n) done t = absurd t
+
+  -- and its parts have kinds
+  pub effect_typed : (e : EffectOp) (ps : Exprs) (kept : List Value) (fs : List PendingFrame) → part_at ps (length kept) ≡ None
+      → Stands (record { node = OfExpr (Operation (op.Effect e) ps); kept = kept } ∷ fs) → (done : List Kind) × IsEffect e done × AreOf acts newest done kept
+  effect_typed e ps kept fs full h = by h.1
+    where
+      f : PendingFrame
+      f = record { node = OfExpr (Operation (op.Effect e) ps); kept = kept }
+
+      typed : (row : Row) (rest : List Kind) (gs : List PendingFrame) → AreFrames P acts newest row rest (f ∷ gs) → (done : List Kind) × IsEffect e done × AreOf acts newest done kept
+      typed row rest [] fr = absurd (let clash : OfExpr (Operation (op.Effect e) ps) ≡ OfStatement row.form = fr.0 in grind (arith, clash))
+      typed row (k ∷ ks) (g ∷ gs) fr =
+          absurd (let (x, found) = some_part P row fr.5.0 k ks ps fr.5.1 in
+          let clash : None ≡ Some x = sym full ∙ ap (part_at ps) (as_many P acts newest row fr.5.0 kept fr.5.2) ∙ found in grind (arith, clash))
+      typed row [] (g ∷ gs) fr =
+          let inner : OfExpr (Operation (op.Effect e) ps) ≡ OfExpr (Operation fr.0 fr.1) = fr.4 in
+          let op_same : fr.0 ≡ op.Effect e = cc inner in
+          let t : IsOp P row.routine row.around (op.Effect e) (fr.5.0 ++ []) fr.2 = subst (λ x. IsOp P row.routine row.around x (fr.5.0 ++ []) fr.2) op_same fr.5.3 in
+          (fr.5.0, effect_of_kind row e fr.2 fr.5.0 (subst (λ x. IsOp P row.routine row.around (op.Effect e) x fr.2) (nothing_more fr.5.0) t), fr.5.2)
+
+      framed : (at : AtStatement P acts newest a (record { statement = n; frames = f ∷ fs })) → (f ∷ fs ≡ []) ⊎ ((rest : List Kind) × AreFrames P acts newest at.row rest (f ∷ fs)) → (done : List Kind) × IsEffect e done × AreOf acts newest done kept
+      framed at (inl x) = absurd (grind (arith, x))
+      framed at (inr (rest, fr)) = typed at.row rest fs fr
+
+      by : AtStatement P acts newest a (record { statement = n; frames = f ∷ fs }) ⊎ ((n ≡ a.routine) × (f ∷ fs ≡ []) × (a.holds ≡ [])) → (done : List Kind) × IsEffect e done × AreOf acts newest done kept
+      by (inl at) = framed at at.frames
+      by (inr x) = absurd (let k : f ∷ fs ≡ [] = x.1 in grind (arith, k))

@@ -1,18 +1,17 @@
 -- Activations that come and go: what older ones have keeps its place.
-use Rattle.std.proofs.Common.{◌≡◌, ℕ, zero, suc, ◌+◌, ◌-◌, ◌<◌, ◌≤◌, Bool, true, false, List, [], ◌∷◌, ◌++◌, length, Option, Some, None, refl, sym, ap, ◌∙◌, subst, arith, inl, inr}
+use Rattle.std.proofs.Common.{◌≡◌, ℕ, suc, ◌+◌, ◌-◌, ◌<◌, ◌≤◌, Bool, true, false, List, [], ◌∷◌, ◌++◌, length, Some, sym, ap, ◌∙◌, subst, arith, inl, inr}
 use Rattle.std.specs.Prelude.{◌⊎◌, drop, replicate}
-use Rattle.core_tree.specs.declared.op.Op.{Op}
 use Rattle.core_tree.specs.declared.op.Op.TheVariants as op
 use Rattle.core_tree.specs.declared.op.Callee.{Callee}
 use Rattle.core_tree.specs.declared.form.RoutineForm.{RoutineForm}
-use Rattle.core_tree.specs.Plain.{Operation, Exprs, part_at}
-use Rattle.plain_pascal.specs.Program.{Kind, NoKind, WordKind, SetKind, PlaceKind, Row, RoutineRow, Program, row_of, routine_of}
-use Rattle.plain_pascal.specs.State.{Place, Global, Local, Heap, Literal, Value, Word, Members, At, NoValue, Node, OfStatement, OfExpr, PendingFrame, Activation, Data, Control}
+use Rattle.core_tree.specs.Plain.{Operation, Exprs}
+use Rattle.plain_pascal.specs.Program.{Kind, NoKind, WordKind, SetKind, PlaceKind, Row, RoutineRow, Program, routine_of}
+use Rattle.plain_pascal.specs.State.{Place, Global, Local, Heap, Literal, Value, Word, Members, At, NoValue, OfStatement, OfExpr, PendingFrame, Activation, Control}
 use Rattle.plain_pascal.specs.Memory.{from_activation, words_of}
 use Rattle.plain_pascal.specs.Operations.{part}
 use Rattle.plain_pascal.specs.Step.{given, returned_value}
 use Rattle.plain_pascal.specs.Typed.{slots_of, slots_in, result_slots, parameter_slots, IsStatement, IsOp, IsCall, result_kind}
-use Rattle.plain_pascal.specs.Valid.{IsOf, AreOf, ArePlain, LiesIn, Fits, AreFrames, AreHeld, AtStatement, HasParent, IsActivation, Waits, NewestStands, AllWait, IsProgram}
+use Rattle.plain_pascal.specs.Valid.{IsOf, AreOf, ArePlain, LiesIn, Fits, AreFrames, AtStatement, IsActivation, NewestStands, AllWait}
 use Rattle.plain_pascal.proofs.Kept.{value_keeps}
 
 module _ (P : Program) (acts acts' : List Activation) (bound : ℕ) (keeps : (newest : ℕ) → newest < bound → (p : Place) (n : ℕ) → LiesIn acts newest p n → LiesIn acts' newest p n) where

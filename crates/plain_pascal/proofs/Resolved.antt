@@ -1,13 +1,13 @@
 -- The laws, of resolved programs.
-use Rattle.std.proofs.Common.{◌≡◌, ℕ, true, List, [], ◌∷◌, refl, sym, ap, ◌∙◌}
+use Rattle.std.proofs.Common.{◌≡◌, true, List, [], ◌∷◌, refl, ap}
 use Rattle.plain_pascal.specs.Program.{program_of}
-use Rattle.plain_pascal.specs.State.{Status, NotStarted, Halted, Ended, Failed, Control, State}
-use Rattle.plain_pascal.specs.Run.{Marks, cleared, driven, fresh, no_frames, rests, rests_by, started}
+use Rattle.plain_pascal.specs.State.{Status, NotStarted, Halted, Ended, Failed, Control}
+use Rattle.plain_pascal.specs.Run.{cleared, driven, fresh, no_frames, rests_by, started}
 use Rattle.plain_pascal.specs.Program.{Program}
 use Rattle.plain_pascal.specs.Standing.{Stands, StandsIn}
 use Rattle.plain_pascal.specs.Laws.{RunsSplit, LinksLead, RunsRest, FirstRunsRest, RunsAreStretches, FirstRunsAreStretches, NextRunsAreStretches}
 use Rattle.plain_pascal.proofs.Splits.{run_splits}
-use Rattle.plain_pascal.proofs.Placed.{IsTable, run_stage, run_ends}
+use Rattle.plain_pascal.proofs.Placed.{run_stage, run_ends}
 use Rattle.plain_pascal.proofs.Run.{first_run, next_run, run_stands, start_stands}
 use Rattle.plain_pascal.proofs.Core.{resolved_table}
 

@@ -1,5 +1,5 @@
 -- A run of j + k gates is a run of j gates and then one of k.
-use Rattle.std.proofs.Common.{◌≡◌, ℕ, zero, suc, ◌+◌, Bool, true, false, List, [], ◌∷◌, ◌++◌, refl, sym, ap, ◌∙◌, append_assoc, arith}
+use Rattle.std.proofs.Common.{◌≡◌, ℕ, zero, suc, ◌+◌, Bool, true, false, List, [], refl, sym, ap, ◌∙◌, append_assoc, arith}
 use Rattle.plain_pascal.specs.Program.{Program}
 use Rattle.plain_pascal.specs.State.{Status, NotStarted, Halted, Ended, Failed, Data, Control, State}
 use Rattle.plain_pascal.specs.Run.{Ending, Stopped, AtBreak, Full, AtEnd, InError, RunResult, Marks, is_full, event, with_event, next_gate, passed, unless_held, driven, continued, continued_by}

@@ -9,7 +9,7 @@ use Rattle.core_tree.specs.declared.form.StatementOp.{StatementOp}
 use Rattle.core_tree.specs.declared.form.StatementOp.TheVariants as stmt
 use Rattle.core_tree.specs.declared.form.CaseLabel.{CaseLabel}
 use Rattle.core_tree.specs.declared.form.RoutineForm.{RoutineForm}
-use Rattle.core_tree.specs.Plain.{Expr, Operation, Exprs, NoMore, And, part_at, Form, BlockForm, ProgramBlock, RoutineBlock, StatementBlock}
+use Rattle.core_tree.specs.Plain.{Expr, Operation, Exprs, NoMore, And, part_at, BlockForm, ProgramBlock, RoutineBlock, StatementBlock}
 use Rattle.plain_machine.specs.Links.{Part, First, Gate, Step as StepPart, End as EndPart, Spot, Program}
 use Rattle.plain_machine.specs.Meaning.{Begin, At, Back, Exit, Out, Calls, Returns, Over, Fails, Overflows, Meaning}
 use Rattle.plain_pascal.specs.Program.{Program as Table, Row, RoutineRow, row_of, routine_of}

@@ -2,7 +2,6 @@
 use Rattle.std.specs.Prelude.{◌≡◌, ◌≤◌, ℕ, suc, ◌+◌, ◌-◌, true, List, ◌∷◌}
 use Rattle.core_tree.specs.Plain.{Routine}
 use Rattle.plain_machine.specs.Meaning.{IsClosed}
-use Rattle.plain_machine.specs.Plain.{next, settle}
 use Rattle.plain_machine.specs.Pauses.{drive, drive_from, gates_on, go_on}
 use Rattle.plain_pascal.specs.Program.{Program, program_of}
 use Rattle.plain_pascal.specs.State.{Halted, Place, Value, Data, Control, State}
@@ -11,7 +10,7 @@ use Rattle.plain_pascal.specs.Statements.{assigned}
 use Rattle.plain_pascal.specs.Step.{small_step}
 use Rattle.plain_pascal.specs.Typed.{stored_kind, stored_words}
 use Rattle.plain_pascal.specs.Valid.{IsData, IsInside, IsOf, IsProgram, IsWellFormed, LiesIn, NewestStands}
-use Rattle.plain_pascal.specs.Run.{Marks, cleared, continued, driven, fresh, passed, rests, run_of}
+use Rattle.plain_pascal.specs.Run.{Marks, cleared, continued, driven, fresh, rests, run_of}
 use Rattle.plain_pascal.specs.Blocks.{blocks_of, pascal}
 use Rattle.plain_pascal.specs.Stages.{stage_of}
 use Rattle.plain_pascal.specs.Marked.{ending_of, pauses_of}
@@ -55,7 +54,8 @@ NextRunsAreStretches = (x : Routine) (m : ℕ) → IsResolved x m → (marks : M
     → stage_of (run_of (program_of x) marks (suc k) (record { status = Halted; control = c ∷ older; data_now = d })).last
     ≡ drive pascal (blocks_of (program_of x)) (suc m) (pauses_of marks) (suc k) (stage_of (record { status = Halted; control = c ∷ older; data_now = cleared d }))
 
--- a step that passes a gate, gives a part a frame, works out a value, calls a routine or leaves one keeps a state in order
+-- a step that passes a gate, gives a part a frame, works out a value, reads, writes, calls a routine or leaves one keeps a
+-- state in order
 abbrev pub InnerStepsKeep : Type 0
 InnerStepsKeep = (P : Program) → IsProgram P → (s : State) → IsWellFormed P s → s.status ≡ Halted → IsInside s.control → IsWellFormed P (small_step P s)
 

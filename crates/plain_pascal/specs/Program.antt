@@ -8,7 +8,7 @@ use Rattle.core_tree.specs.declared.form.StatementOp.{StatementOp}
 use Rattle.core_tree.specs.declared.form.StatementOp.TheVariants as stmt
 use Rattle.core_tree.specs.declared.form.RoutineForm.{RoutineForm}
 use Rattle.core_tree.specs.Shapes.{counted_words, words_of}
-use Rattle.core_tree.specs.Plain.{Expr, Operation, Exprs, NoMore, And, Form, Formal, Routine, BlockForm, ProgramBlock, RoutineBlock, StatementBlock, head_form}
+use Rattle.core_tree.specs.Plain.{Operation, Exprs, NoMore, And, Form, Formal, Routine, BlockForm, RoutineBlock, StatementBlock, head_form}
 use Rattle.core_tree.specs.Control.{Continuation, Enclosing, Label, MachineRow, RoutineRow as ListedRoutine, machine_rows, core_routines}
 
 -- a kind of value: none, a word, a set, or the place of so many words

@@ -1,6 +1,6 @@
 -- What the check of a program gives: the statements that an operation needs are there, the program has the name 1, names
 -- differ, a label of a goto stands in its routine (ISO 7185:1990, 6.8.1), and what is called is a routine (6.8.2.3).
-use Rattle.std.specs.Prelude.{◌≡◌, ◌⊎◌, ℕ, suc, ◌+◌, ◌<◌, ◌≤◌, ◌==◌, Bool, true, false, List, Option, Some, None, find}
+use Rattle.std.specs.Prelude.{◌≡◌, ◌⊎◌, ℕ, suc, ◌+◌, ◌<◌, ◌≤◌, ◌==◌, Bool, true, false, Option, Some, None, find}
 use Rattle.std.specs.List.{AllByRecursion}
 use Rattle.dice_base.specs.declared.name.Name.{Name}
 use Rattle.dice_base.specs.declared.link.LinkTo.TheVariants.{Child, Label}

@@ -173,8 +173,8 @@ IsWritten what k = k ≡ WordKind
 
 abbrev pub IsEffect : EffectOp → List Kind → Type 0
 IsEffect (effect.Hold number words) (PlaceKind whole ∷ []) = (1 ≤ number) × (words ≤ whole)
-IsEffect (effect.ReadInteger first last) (PlaceKind whole ∷ []) = 1 ≤ whole
-IsEffect (effect.ReadChar first last) (PlaceKind whole ∷ []) = 1 ≤ whole
+IsEffect (effect.ReadInteger first last) (PlaceKind whole ∷ []) = (1 ≤ whole) × (int_le last (pos 32767) ≡ true)
+IsEffect (effect.ReadChar first last) (PlaceKind whole ∷ []) = (1 ≤ whole) × (int_le last (pos 32767) ≡ true)
 IsEffect (effect.Write what false) (k ∷ []) = IsWritten what k
 IsEffect (effect.Write what true) (k ∷ (WordKind ∷ [])) = IsWritten what k
 IsEffect o ks = ⊥

@@ -4,6 +4,7 @@ use Rattle.std.specs.Prelude.{◌≡◌, ℕ, ◌+◌, ◌≤◌, ◌<◌, List,
 use Rattle.std.specs.List.{AllByRecursion}
 use Rattle.core_tree.specs.declared.op.Op.{Op}
 use Rattle.core_tree.specs.declared.op.Op.TheVariants as op
+use Rattle.core_tree.specs.declared.op.EffectOp.TheVariants as effect
 use Rattle.core_tree.specs.Plain.{Expr, Operation, Exprs, part_at}
 use Rattle.plain_pascal.specs.Program.{Kind, NoKind, WordKind, SetKind, PlaceKind, Row, RoutineRow, Program, row_of, routine_of}
 use Rattle.plain_pascal.specs.State.{Status, NotStarted, Halted, Place, Global, Local, Heap, Literal, Value, Word, Members, At, NoValue, Node, OfStatement, OfExpr, PendingFrame, Activation, Cell, Data, Control, State, globals_count, heap_count}
@@ -143,9 +144,9 @@ pub record IsProgram (P : Program) : Type 0 where
 
 -- ---- steps inside a statement
 
--- an operation without an effect; a call is one
+-- any operation but one that takes a hold
 abbrev pub IsInner : Op → Type 0
-IsInner (op.Effect e) = ⊥
+IsInner (op.Effect (effect.Hold number words)) = ⊥
 IsInner o = Unit {0}
 
 abbrev pub IsInnerNode : Option Expr → Node → Type 0
@@ -153,7 +154,7 @@ IsInnerNode (Some e) x = Unit {0}
 IsInnerNode None (OfExpr (Operation o ps)) = IsInner o
 IsInnerNode None (OfStatement f) = ⊥
 
--- the next step passes a gate, gives a part a frame, or has the value of an operation or its call
+-- the next step passes a gate, gives a part a frame, or carries out such an operation
 abbrev pub AreInner : List PendingFrame → Type 0
 AreInner [] = Unit {0}
 AreInner (f ∷ fs) = IsInnerNode (part_at (parts_of f.node) (length f.kept)) f.node
