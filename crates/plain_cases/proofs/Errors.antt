@@ -13,7 +13,7 @@ use Rattle.core_tree.specs.Plain.{Routine}
 use Rattle.plain_pascal.specs.Program.{Program, program_of}
 use Rattle.plain_pascal.specs.State.{loaded_state}
 use Rattle.plain_pascal.specs.Run.{InError, run_of, settled, driven}
-use Rattle.plain_cases.specs.Build.{node, two, integers, global, value, number, compound, statement, routine, no_marks}
+use Rattle.plain_pascal.specs.Build.{node, two, integers, global, value, number, compound, statement, routine, no_marks}
 
 abbrev source : Routine
 source =

@@ -1,10 +1,8 @@
 mod Bounds
 mod Cells
-mod Counts
 mod Errors
 mod Factorial
 mod Jumps
-mod Locals
 mod Orders
 mod Readings
 mod Records

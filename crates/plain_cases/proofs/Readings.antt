@@ -10,7 +10,7 @@ use Rattle.core_tree.specs.declared.form.StatementOp.TheVariants as stmt
 use Rattle.core_tree.specs.Plain.{Routine}
 use Rattle.plain_pascal.specs.Program.{Program, program_of}
 use Rattle.plain_pascal.specs.Run.{InError, run_of, settled, driven}
-use Rattle.plain_cases.specs.Build.{node, two, global, value, number, compound, statement, routine, no_marks, with_input}
+use Rattle.plain_pascal.specs.Build.{node, two, global, value, number, compound, statement, routine, no_marks, with_input}
 
 abbrev source : Routine
 source =

@@ -17,7 +17,7 @@ use Rattle.core_tree.specs.Shapes.{Integer, RecordOf, NoField, Field}
 use Rattle.plain_pascal.specs.Program.{Program, program_of}
 use Rattle.plain_pascal.specs.State.{loaded_state}
 use Rattle.plain_pascal.specs.Run.{AtEnd, run_of, settled, driven}
-use Rattle.plain_cases.specs.Build.{node, integers, global, local, reference, value, number, compound, statement, formal, routine, no_marks}
+use Rattle.plain_pascal.specs.Build.{node, integers, global, local, reference, value, number, compound, statement, formal, routine, no_marks}
 
 abbrev source : Routine
 source =

@@ -20,3 +20,4 @@ pub mod Marked
 pub mod Resolved
 pub mod Standing
 pub mod Laws
+pub mod Build

@@ -12,7 +12,7 @@ use Rattle.core_tree.specs.Shapes.{Integer}
 use Rattle.plain_pascal.specs.Program.{Program, program_of}
 use Rattle.plain_pascal.specs.State.{loaded_state}
 use Rattle.plain_pascal.specs.Run.{AtEnd, run_of, settled, driven}
-use Rattle.plain_cases.specs.Build.{node, integers, local, value, number, compound, statement, variable, routine, no_marks}
+use Rattle.plain_pascal.specs.Build.{node, integers, local, value, number, compound, statement, variable, routine, no_marks}
 
 abbrev source : Routine
 source =
