@@ -14,7 +14,7 @@ use Rattle.plain_pascal.specs.State.{loaded_state}
 use Rattle.plain_pascal.specs.Run.{AtEnd, run_of, settled, driven}
 use Rattle.plain_pascal.specs.Build.{node, integers, local, value, number, compound, statement, variable, routine, no_marks}
 
-abbrev source : Routine
+abbrev pub source : Routine
 source =
     (routine 1 0 [] None [] (
     (routine 2 1 [] None (variable Integer ∷ []) []
@@ -26,7 +26,7 @@ source =
     (statement 9 None 0 0 stmt.Call ((node (op.Call (record { routine = record { 0 = 2 }; scope = scope.Program; function = false })) []) ∷ []) []) ∷
     (statement 10 None 0 0 (stmt.Write true) [] []) ∷ [])))
 
-abbrev P : Program
+abbrev pub P : Program
 P = program_of source
 
 -- the whole run
