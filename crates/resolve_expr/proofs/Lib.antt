@@ -1,0 +1,4 @@
+pub mod Keeping
+pub mod Ranks
+pub mod Chains
+pub mod Sole
