@@ -5,12 +5,10 @@ use Rattle.std.proofs.Math.ListN.{drop_of_length-le}
 use Rattle.dice_base.specs.declared.fault.NoMemory.{NoMemory}
 use Rattle.resolve_expr.specs.declared.context.KeptCollected.{KeptCollected}
 use Rattle.resolve_expr.specs.declared.context.KeptParts.{KeptParts}
-use Rattle.pascal_tree.specs.declared.expr.AddOp.{AddOp}
-use Rattle.pascal_tree.specs.declared.expr.MulOp.{MulOp}
 use Rattle.check_rules.specs.Typing.{Table}
 use Rattle.check_rules.specs.declared.entity.Parameter.{Parameter}
 use Rattle.core_tree.specs.declared.op.CoreExpr.{CoreExpr}
-use Rattle.resolve_expr.specs.Kept.{kept, kept_parts, with_part, with_parts}
+use Rattle.resolve_expr.specs.Kept.{kept_parts, with_parts}
 use Rattle.resolve_expr.specs.Nodes.{Node, Resolved, Collected, Argument, component_node, components_node, node_after, sum_with, sum_of_all, product_with, product_of_all, kept_collected, with_member, with_members, arguments_for}
 use Rattle.resolve_expr.specs.Expressions.{Step, Adding, Multiplying, Member}
 use Rattle.resolve_expr.proofs.Keeping.{kept_with_part}

@@ -1,14 +1,14 @@
 -- What is kept of an operation is made from what is kept of its parts.
-use Rattle.std.proofs.Common.{◌≡◌, ℕ, ◌+◌, nat_le, Bool, true, false, List, [], ◌∷◌, ◌++◌, map, Option, Some, None, refl, ap, sym, ◌∙◌, arith}
+use Rattle.std.proofs.Common.{◌≡◌, ℕ, ◌+◌, Bool, true, false, List, [], ◌∷◌, ◌++◌, Option, refl, ap, sym, ◌∙◌, arith}
 use Rattle.std.proofs.lemmas.Bool.{le-leb, leb-true}
 use Rattle.std.proofs.lemmas.Bool.Decides.{nat_tests}
 use Rattle.resolve_expr.specs.declared.context.TheConstants.{MAX_BLOCK_WORDS}
-use Rattle.core_tree.specs.declared.op.CoreExpr.{CoreExpr, CoreExpr-F, roll-CoreExpr}
+use Rattle.core_tree.specs.declared.op.CoreExpr.{CoreExpr}
 use Rattle.core_tree.specs.declared.op.CoreExpr.TheFolds.{fold-roll-CoreExpr}
 use Rattle.core_tree.specs.declared.op.Op.{Op}
 use Rattle.core_tree.specs.declared.shape.Shape.{Shape}
-use Rattle.core_tree.specs.Charge.{counted_charge, expr_charge, exprs_charge, op_charge}
-use Rattle.core_tree.specs.Plain.{Expr, exprs_of}
+use Rattle.core_tree.specs.Charge.{counted_charge, expr_charge, op_charge}
+use Rattle.core_tree.specs.Plain.{Expr}
 use Rattle.core_tree.specs.Views.{expr_of, in_expr}
 use Rattle.resolve_expr.specs.declared.context.Kept.{Kept}
 use Rattle.resolve_expr.specs.declared.context.KeptParts.{KeptParts}

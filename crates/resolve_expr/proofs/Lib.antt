@@ -2,3 +2,4 @@ pub mod Keeping
 pub mod Ranks
 pub mod Chains
 pub mod Sole
+mod Examples

@@ -16,7 +16,7 @@ use Rattle.pascal_tree.specs.declared.expr.SetMember.{SetMember}
 use Rattle.pascal_tree.specs.declared.expr.AccessPart.TheFolds.{fold_out-Expr, fold_out-SumExpr, fold_out-Term, fold_out-Factor}
 use Rattle.resolve_expr.specs.declared.context.Context.{Context}
 use Rattle.resolve_expr.specs.Nodes.{Node, Resolved, Accessed, Argument}
-use Rattle.resolve_expr.specs.Expressions.{Step, Adding, Multiplying, Relation, Member, sum_value, term_value, relation_value, in_part, in_factor, in_access, in_adding, in_arg, in_expr, in_multiplying, in_relation, in_member, in_sum, in_term, sum_of, term_of, factor_of, adding_of, multiplying_of, relation_of, value_of, access_of, part_of, argument_of, member_of}
+use Rattle.resolve_expr.specs.Expressions.{Step, Adding, Multiplying, Relation, Member, sum_value, term_value, in_part, in_factor, in_access, in_adding, in_arg, in_expr, in_multiplying, in_relation, in_member, in_sum, in_term, sum_of, term_of, factor_of, adding_of, multiplying_of, relation_of, value_of, access_of, part_of, argument_of, member_of}
 
 abbrev pub factor_access : Factor-F AccessPart Factor Access AddPart Arg Expr MulPart RelPart SetMember SumExpr Term → Option Access
 factor_access (Factor-F.Access a) = Some a

@@ -1,6 +1,6 @@
 -- What is kept of a resolved expression: the words of its code, and the tree while they fit into one block.
-use Rattle.std.specs.Prelude.{ℕ, ◌+◌, nat_le, Bool, true, false, if◌then◌else◌, List, [], ◌∷◌, ◌++◌, map, Option, Some, None}
-use Rattle.core_tree.specs.declared.op.CoreExpr.{CoreExpr, CoreExpr-F, roll-CoreExpr}
+use Rattle.std.specs.Prelude.{ℕ, ◌+◌, nat_le, Bool, true, false, List, [], ◌∷◌, ◌++◌, map, Option, Some, None}
+use Rattle.core_tree.specs.declared.op.CoreExpr.{CoreExpr, roll-CoreExpr}
 use Rattle.core_tree.specs.declared.op.Op.{Op}
 use Rattle.core_tree.specs.declared.shape.Shape.{Shape}
 use Rattle.core_tree.specs.Charge.{counted_charge, expr_charge, exprs_charge, op_charge}

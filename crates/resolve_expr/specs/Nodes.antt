@@ -1,6 +1,6 @@
 -- Expressions without their identifiers (ISO 7185:1990, 6.5 and 6.7): a rule for each form, whose parts stand resolved
 -- already, each with its type. What breaks a rule of the check has no meaning here, and is given any operation.
-use Rattle.std.specs.Prelude.{ℕ, ◌-◌, min, ℤ, pos, negsuc, Bool, true, false, ◌&&◌, if◌then◌else◌, List, [], ◌∷◌, ◌++◌, Option, Some, None, is_some, nat_eq, bytes_eq}
+use Rattle.std.specs.Prelude.{ℕ, ◌-◌, min, ℤ, pos, negsuc, Bool, true, false, if◌then◌else◌, List, [], ◌∷◌, Option, Some, None, is_some, nat_eq, bytes_eq}
 use Rattle.dice_base.specs.declared.name.Name.{Name}
 use Rattle.pascal_tree.specs.declared.expr.Prefix.{Prefix}
 use Rattle.pascal_tree.specs.declared.expr.Prefix.TheVariants as prefix
@@ -13,7 +13,7 @@ use Rattle.pascal_tree.specs.declared.expr.RelOp.TheVariants as rel
 use Rattle.check_rules.specs.declared.typing.Host.{Host}
 use Rattle.check_rules.specs.declared.typing.Host.TheVariants as host
 use Rattle.check_rules.specs.declared.typing.Typing.{Typing}
-use Rattle.check_rules.specs.declared.typing.Typing.TheVariants.{Ordinal, Written, CanonicalSet, EmptySet, Nil, Unknown}
+use Rattle.check_rules.specs.declared.typing.Typing.TheVariants.{Ordinal, Written, EmptySet, Nil, Unknown}
 use Rattle.check_rules.specs.declared.typing.Domain.{Domain}
 use Rattle.check_rules.specs.declared.typing.Structure.{Structure}
 use Rattle.check_rules.specs.declared.typing.Structure.TheVariants as made
@@ -32,7 +32,7 @@ use Rattle.check_rules.specs.declared.entity.JudgedConstant.{JudgedConstant}
 use Rattle.check_rules.specs.Typing.{Table, Text, structure_at, bounds_of, words_of, host_of, set_of, string_length, domain_of}
 use Rattle.check_expr.specs.declared.notes.Env.{Env}
 use Rattle.check_expr.specs.Values.{integer_type, boolean_type, sum_type, product_type, base_with, set_of_base}
-use Rattle.check_expr.specs.Accesses.{is_nil, domain_type, result_of, is_function}
+use Rattle.check_expr.specs.Accesses.{is_nil, domain_type, result_of}
 use Rattle.core_tree.specs.declared.op.CoreExpr.{CoreExpr}
 use Rattle.core_tree.specs.declared.op.Scope.{Scope}
 use Rattle.core_tree.specs.declared.op.Scope.TheVariants as scope

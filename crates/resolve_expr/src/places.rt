@@ -62,13 +62,7 @@ fn frame_words(owner: Option<OwnerWords>) -> u32
     ensures { result ≡ spec.frame_words owner }
 {
     match owner {
-        Some(words) => {
-            if words.level == 0 {
-                0
-            } else {
-                words.words
-            }
-        }
+        Some(words) => { if words.level == 0 { 0 } else { words.words } }
         None => 0,
     }
 }
@@ -251,11 +245,7 @@ pub fn domain_node(alloc: Global, env: &Env, place: KeptNode) -> Result<KeptNode
 }
 
 /// The value of the variable at a place.
-pub fn loaded(
-    alloc: Global,
-    table: &[WrittenType],
-    place: KeptNode,
-) -> Result<KeptNode, NoMemory>
+pub fn loaded(alloc: Global, table: &[WrittenType], place: KeptNode) -> Result<KeptNode, NoMemory>
     ensures { (x : spec.Node) → place ≡ spec.kept_node x
         → IfOk result (λ r. r ≡ spec.kept_node (spec.loaded table.now x)) }
 {

@@ -40,7 +40,13 @@ pub fn with_first(
         → IfOk result (λ r. r ≡ spec.kept_collected (spec.with_member table.now x (a, None))) }
 {
     let base = base_after(table, collected.base, member.typing);
-    let set = both(alloc, Op::Set(SetOp::Include), None, collected.set, member.kept)?;
+    let set = both(
+        alloc,
+        Op::Set(SetOp::Include),
+        None,
+        collected.set,
+        member.kept,
+    )?;
     Ok(KeptCollected { base, set })
 }
 

@@ -104,7 +104,12 @@ pub fn value_argument(
     ensures { (x : spec.Node) → value ≡ spec.kept_node x
         → IfOk result (λ k. k ≡ kept_spec.kept (spec.value_argument table.now typing x)) }
 {
-    around(alloc, Op::Argument(storage_of(table, typing)), None, value.kept)
+    around(
+        alloc,
+        Op::Argument(storage_of(table, typing)),
+        None,
+        value.kept,
+    )
 }
 
 /// A variable parameter's argument.
@@ -228,11 +233,7 @@ fn call_alone(alloc: Global, context: &Context, routine: &RoutineEntity) -> Kept
 }
 
 /// An identifier alone: a constant, a function without arguments, or the value of a variable.
-pub fn alone_node(
-    alloc: Global,
-    context: &Context,
-    ident: &[u8],
-) -> Result<KeptNode, NoMemory>
+pub fn alone_node(alloc: Global, context: &Context, ident: &[u8]) -> Result<KeptNode, NoMemory>
     ensures { IfOk result (λ r. r ≡ spec.kept_node (spec.alone_node context.now (accesses.entity_at context.now.env ident.now))) }
 {
     let table = context.env.table.as_slice();

@@ -1,6 +1,5 @@
-use Rattle.std.proofs.Common.{◌≡◌, ap, sym, ◌∙◌, map, length, take, arith, option_map}
+use Rattle.std.proofs.Common.{ap, sym, ◌∙◌, map, length, take, arith, option_map}
 use Rattle.pascal_tree.specs.declared.expr.SetMember.{out-SetMember}
-use Rattle.std.proofs.lemmas.Bool.Decides.{nat_tests}
 use Rattle.resolve_expr.specs.Nodes as spec
 use Rattle.resolve_expr.specs.Expressions as folds
 use Rattle.resolve_expr.proofs.Ranks.{adding_is, multiplying_is, member_is, first_argument, standard_over, parted_value, loaded_over}
