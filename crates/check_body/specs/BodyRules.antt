@@ -3,13 +3,13 @@ use Rattle.std.specs.Prelude.{ℕ, List, [], ◌∷◌, ◌++◌, Option, Some, 
 use Rattle.dice_base.specs.declared.name.Name.{Name}
 use Rattle.check_rules.specs.declared.fault.CheckFault.{CheckFault}
 use Rattle.check_rules.specs.Regions.{Regions}
-use Rattle.check_expr.specs.declared.notes.Env.{Env}
-use Rattle.check_expr.specs.Values.{VariableName}
+use Rattle.expression_rules.specs.declared.notes.Env.{Env}
+use Rattle.expression_rules.specs.Values.{VariableName}
 use Rattle.check_decl.specs.declared.place.At.{At}
 use Rattle.check_decl.specs.declared.place.Owner.{Owner}
 use Rattle.check_decl.specs.declared.place.Known.{Known}
 use Rattle.check_decl.specs.declared.place.Layout.{Layout}
-use Rattle.check_decl.specs.Labels.{Numbers}
+use Rattle.body_labels.specs.Labels.{Numbers}
 use Rattle.check_decl.specs.BlockRules.{Outcome, regions_at}
 use Rattle.check_body.specs.StatementRules.{Judge, first_fault}
 

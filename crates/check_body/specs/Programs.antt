@@ -8,7 +8,7 @@ use Rattle.check_rules.specs.Regions.{Regions}
 use Rattle.check_decl.specs.declared.place.At.{At}
 use Rattle.check_decl.specs.declared.place.Owner.{Owner}
 use Rattle.check_decl.specs.declared.place.Layout.{Layout}
-use Rattle.check_decl.specs.Labels.{Numbers}
+use Rattle.body_labels.specs.Labels.{Numbers}
 use Rattle.check_decl.specs.BlockRules.{Outcome, program_walk}
 use Rattle.check_decl.specs.Blocks.{block_judge}
 use Rattle.check_body.specs.Statements.{judge_of}

@@ -22,14 +22,14 @@ use Rattle.check_rules.specs.declared.entity.Entity.TheVariants.{VariableOf, Fie
 use Rattle.check_rules.specs.Typing.{Table, Text, host_of, are_compatible_ordinals, structure_at, domain_of, string_length, is_assignable}
 use Rattle.check_rules.specs.Faults.{kind_unless, fault_at}
 use Rattle.check_rules.specs.declared.kinds.TheConstants.{CLEAN, UNKNOWN, WRONG_CLASS, WRONG_TYPE, WRONG_ARGUMENTS, WRONG_CONSTANT, WRONG_LABEL, WRONG_CONTROL}
-use Rattle.check_decl.specs.Labels.{Numbers, has_number}
+use Rattle.body_labels.specs.Labels.{Numbers, has_number}
 use Rattle.check_rules.specs.declared.entity.JudgedConstant.{JudgedConstant}
 use Rattle.check_types.specs.Constants.{constant_from, number_in}
-use Rattle.check_expr.specs.declared.notes.Notes.{Notes}
-use Rattle.check_expr.specs.declared.notes.Judged.{Judged}
-use Rattle.check_expr.specs.declared.notes.Env.{Env}
-use Rattle.check_expr.specs.Values.{no_notes, notes_of, notes_of_both, notes_with, Reached, Value, Argument, integer_type, may_be_host, may_be_ordinal, may_be_compatible, VariableName}
-use Rattle.check_expr.specs.Accesses.{is_nil, entity_at, change_of, all_notes, argument_notes, refused_width, width_notes, arguments_notes, is_file}
+use Rattle.expression_rules.specs.declared.notes.Notes.{Notes}
+use Rattle.expression_rules.specs.declared.notes.Judged.{Judged}
+use Rattle.expression_rules.specs.declared.notes.Env.{Env}
+use Rattle.expression_rules.specs.Values.{no_notes, notes_of, notes_of_both, notes_with, Reached, Value, Argument, integer_type, may_be_host, may_be_ordinal, may_be_compatible, VariableName}
+use Rattle.expression_rules.specs.Accesses.{is_nil, entity_at, change_of, all_notes, argument_notes, refused_width, width_notes, arguments_notes, is_file}
 use Rattle.check_rules.specs.declared.fault.CheckFault.{CheckFault}
 
 -- ---- conditions are Boolean (6.8.3.4, 6.8.3.7, 6.8.3.8)

@@ -5,9 +5,9 @@ use Rattle.pascal_tree.specs.declared.expr.Access.{Access}
 use Rattle.pascal_tree.specs.declared.stmt.Stmt.{Stmt, Stmt-F, fold-Stmt}
 use Rattle.pascal_tree.specs.declared.stmt.StmtKind.{StmtKind, StmtKind-F, fold-StmtKind}
 use Rattle.pascal_tree.specs.declared.stmt.Arm.{Arm, Arm-F, fold-Arm}
-use Rattle.check_expr.specs.declared.notes.Env.{Env}
-use Rattle.check_expr.specs.Expressions.{judgement_of, access_of, argument_of}
-use Rattle.check_decl.specs.Labels.{Numbers}
+use Rattle.expression_rules.specs.declared.notes.Env.{Env}
+use Rattle.expression_rules.specs.Expressions.{judgement_of, access_of, argument_of}
+use Rattle.body_labels.specs.Labels.{Numbers}
 use Rattle.check_body.specs.StatementRules.{ValueJudge, AccessJudge, Judge, KindJudge, ArmJudge, empty_kind, assign_kind, call_kind, goto_kind, compound_kind, if_kind, case_kind, while_kind, repeat_kind, for_kind, with_kind, statement_judge}
 
 abbrev pub value_judge : Expr → ValueJudge

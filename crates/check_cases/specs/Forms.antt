@@ -15,11 +15,11 @@ use Rattle.check_rules.specs.declared.fault.CheckFault.{CheckFault}
 use Rattle.check_rules.specs.Typing.{Text}
 use Rattle.check_rules.specs.Regions.{Texts}
 use Rattle.check_types.specs.TypeRules.{TypeReading, FieldJudge, TypeJudge, constants_in, constants_in_field, in_type, in_field}
-use Rattle.check_expr.specs.declared.notes.Env.{Env}
-use Rattle.check_expr.specs.Values.{Value, Reached, Argument}
-use Rattle.check_expr.specs.ExpressionRules.{Step, in_part, in_factor, in_access, in_adding, in_arg, in_expr, in_multiplying, in_relation, in_member, in_sum, in_term}
+use Rattle.expression_rules.specs.declared.notes.Env.{Env}
+use Rattle.expression_rules.specs.Values.{Value, Reached, Argument}
+use Rattle.expression_rules.specs.ExpressionRules.{Step, in_part, in_factor, in_access, in_adding, in_arg, in_expr, in_multiplying, in_relation, in_member, in_sum, in_term}
 use Rattle.check_decl.specs.declared.place.Layout.{Layout}
-use Rattle.check_decl.specs.Labels.{Numbers, all_labels}
+use Rattle.body_labels.specs.Labels.{Numbers, all_labels}
 use Rattle.check_decl.specs.BlockRules.{DeclJudge, constant_decl, type_decl, variable_decl, BlockJudge, RoutineJudge, block_of_parts, program_walk}
 use Rattle.check_decl.specs.Layouts.{LayoutFault, layout_fault}
 use Rattle.check_body.specs.StatementRules.{Judge, KindJudge, ArmJudge, empty_kind, assign_kind, call_kind, goto_kind, compound_kind, if_kind, case_kind, while_kind, repeat_kind, for_kind, with_kind, statement_judge}

@@ -20,13 +20,13 @@ use Rattle.check_rules.specs.Faults.{kind_unless, fault_at}
 use Rattle.check_rules.specs.Regions.{Texts, Regions, has_ident, entity_in, new_region, declare, predeclared_region}
 use Rattle.check_types.specs.Constants.{constant_of}
 use Rattle.check_types.specs.TypeRules.{TypeReading, TypeJudgement}
-use Rattle.check_decl.specs.declared.headings.JudgedHeading.{JudgedHeading}
+use Rattle.check_types.specs.declared.headings.JudgedHeading.{JudgedHeading}
 use Rattle.check_decl.specs.declared.place.At.{At}
 use Rattle.check_decl.specs.declared.place.Known.{Known}
 use Rattle.check_decl.specs.declared.place.Owner.{Owner}
 use Rattle.check_decl.specs.declared.routines.Naming.{Naming}
-use Rattle.check_decl.specs.Labels.{Numbers, label_part_kind}
-use Rattle.check_decl.specs.Headings.{heading_of, lacks_result, is_bare_heading}
+use Rattle.body_labels.specs.Labels.{Numbers, label_part_kind}
+use Rattle.check_types.specs.Headings.{heading_of, lacks_result, is_bare_heading}
 
 -- ---- items in turn
 

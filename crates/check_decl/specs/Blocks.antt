@@ -14,7 +14,7 @@ use Rattle.check_types.specs.TypeTexts.{reading_of}
 use Rattle.check_decl.specs.declared.place.At.{At}
 use Rattle.check_decl.specs.declared.place.Owner.{Owner}
 use Rattle.check_decl.specs.declared.place.Known.{Known}
-use Rattle.check_decl.specs.Labels.{Numbers, placed_labels}
+use Rattle.body_labels.specs.Labels.{Numbers, placed_labels}
 use Rattle.check_decl.specs.BlockRules.{Outcome, DeclJudge, constant_decl, type_decl, variable_decl, label_decl, BlockJudge, RoutineJudge, BlockParts, block_of_parts, no_body, program_walk}
 
 abbrev pub kind_judge : Name → DeclKind → DeclJudge

@@ -1,3 +1,4 @@
 pub mod Constants
+pub mod Headings
 pub mod TypeRules
 pub mod TypeTexts

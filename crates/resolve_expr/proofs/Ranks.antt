@@ -16,7 +16,7 @@ use Rattle.pascal_tree.specs.declared.expr.RelPart.{RelPart}
 use Rattle.pascal_tree.specs.declared.expr.AccessPart.TheFolds.{fold_out-SumExpr, fold_out-Term, fold_out-AddPart, fold_out-MulPart, fold_out-Arg, fold_out-SetMember, fold_out-Access}
 use Rattle.check_rules.specs.Typing.{Table}
 use Rattle.check_rules.specs.declared.entity.Standard.{Standard}
-use Rattle.check_expr.specs.Accesses.{is_nil}
+use Rattle.expression_rules.specs.Accesses.{is_nil}
 use Rattle.dice_base.specs.declared.fault.NoMemory.{NoMemory}
 use Rattle.resolve_expr.specs.declared.context.KeptNode.{KeptNode}
 use Rattle.resolve_expr.specs.declared.context.Context.{Context}

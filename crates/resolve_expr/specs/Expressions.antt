@@ -18,7 +18,7 @@ use Rattle.pascal_tree.specs.declared.expr.SumExpr.{SumExpr, SumExpr-F, fold-Sum
 use Rattle.pascal_tree.specs.declared.expr.Term.{Term, Term-F, fold-Term}
 use Rattle.check_rules.specs.Strings.{string_constant}
 use Rattle.check_rules.specs.Typing.{Table}
-use Rattle.check_expr.specs.Accesses.{entity_at}
+use Rattle.expression_rules.specs.Accesses.{entity_at}
 use Rattle.resolve_expr.specs.declared.context.Context.{Context}
 use Rattle.resolve_expr.specs.Nodes.{Node, number_node, nil_node, Accessed, Resolved, resolved, Argument, components_node, field_node, domain_node, accessed, judged_node, access_value, function_node, set_node, negation, compared, signed, sum_of_all, product_of_all}
 

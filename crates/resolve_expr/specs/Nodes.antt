@@ -30,9 +30,9 @@ use Rattle.check_rules.specs.declared.entity.Entity.{Entity}
 use Rattle.check_rules.specs.declared.entity.Entity.TheVariants.{ConstantOf, VariableOf, FieldOf, RoutineOf, StandardOf}
 use Rattle.check_rules.specs.declared.entity.JudgedConstant.{JudgedConstant}
 use Rattle.check_rules.specs.Typing.{Table, Text, structure_at, bounds_of, words_of, host_of, set_of, string_length, domain_of}
-use Rattle.check_expr.specs.declared.notes.Env.{Env}
-use Rattle.check_expr.specs.Values.{integer_type, boolean_type, sum_type, product_type, base_with, set_of_base}
-use Rattle.check_expr.specs.Accesses.{is_nil, domain_type, result_of}
+use Rattle.expression_rules.specs.declared.notes.Env.{Env}
+use Rattle.expression_rules.specs.Values.{integer_type, boolean_type, sum_type, product_type, base_with, set_of_base}
+use Rattle.expression_rules.specs.Accesses.{is_nil, domain_type, result_of}
 use Rattle.core_tree.specs.declared.op.CoreExpr.{CoreExpr}
 use Rattle.core_tree.specs.declared.op.Scope.{Scope}
 use Rattle.core_tree.specs.declared.op.Scope.TheVariants as scope

@@ -1,5 +1,5 @@
 //! Where an expression stands, and what is kept of it.
-use check_expr::Env;
+use expression_rules::Env;
 use check_rules::{Host, Typing};
 use core_tree::CoreExpr;
 use dice_base::Name;

@@ -2,7 +2,7 @@
 //! thousands long, while the tree is at most as deep as a program.
 ghost use Rattle.std.specs.Prelude.{◌≡◌, List, map, IfOk};
 ghost use Rattle.core_tree.specs.declared.op.CoreExpr.{CoreExpr};
-ghost use Rattle.check_expr.specs.Accesses as accesses;
+ghost use Rattle.expression_rules.specs.Accesses as accesses;
 ghost use Rattle.resolve_expr.specs.Kept as kept_spec;
 ghost use Rattle.resolve_expr.specs.Nodes as spec;
 ghost use Rattle.resolve_expr.specs.Expressions as folds;
@@ -16,7 +16,7 @@ use crate::values::{
     alone_node, call_with, nil_node, number_node, place_argument, standard_alone, standard_with,
     string_node, value_argument,
 };
-use check_expr::{declared_entity, opened_field};
+use expression_rules::{declared_entity, opened_field};
 use check_rules::{Entity, Parameter, Standard};
 use dice_base::NoMemory;
 use pascal_tree::{

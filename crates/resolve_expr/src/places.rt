@@ -1,14 +1,14 @@
 //! Accesses (ISO 7185:1990, 6.5): where they begin, and their steps, as operations.
 ghost use Rattle.std.specs.Prelude.{◌≡◌, IfOk};
 ghost use Rattle.std.specs.Option.{option_copied};
-ghost use Rattle.check_expr.specs.Accesses as accesses;
+ghost use Rattle.expression_rules.specs.Accesses as accesses;
 ghost use Rattle.check_rules.specs.Typing as types;
 ghost use Rattle.resolve_expr.specs.Nodes as spec;
 
 use crate::context::{Context, KeptNode, OwnerWords};
 use crate::kept::{around, both, leaf};
 use crate::types::{load_of, shape_of, storage_of};
-use check_expr::{Env, declared_entity, opened_field};
+use expression_rules::{Env, declared_entity, opened_field};
 use check_rules::{
     Domain, Entity, Field, FieldType, Structure, Typing, Variable, WrittenType, bounds_of,
     domain_of, structure_at, words_of,

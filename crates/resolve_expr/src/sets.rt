@@ -1,6 +1,6 @@
 //! Set brackets (ISO 7185:1990, 6.7.1): members that are put into an empty set.
 ghost use Rattle.std.specs.Prelude.{◌≡◌, IfOk, Some, None};
-ghost use Rattle.check_expr.specs.Values as values;
+ghost use Rattle.expression_rules.specs.Values as values;
 ghost use Rattle.resolve_expr.specs.Nodes as spec;
 
 use crate::context::{KeptCollected, KeptNode};

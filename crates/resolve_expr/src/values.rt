@@ -1,8 +1,8 @@
 //! Values that need no other expression: constants, and functions by their operands (ISO 7185:1990, 6.3, 6.6.6 and 6.7).
 ghost use Rattle.std.specs.Prelude.{◌≡◌, [], IfOk, List, Some, None};
 ghost use Rattle.std.specs.Option.{option_copied};
-ghost use Rattle.check_expr.specs.Accesses as accesses;
-ghost use Rattle.check_expr.specs.Values as values;
+ghost use Rattle.expression_rules.specs.Accesses as accesses;
+ghost use Rattle.expression_rules.specs.Values as values;
 ghost use Rattle.check_rules.specs.Strings as strings;
 ghost use Rattle.check_rules.specs.Typing as types;
 ghost use Rattle.core_tree.specs.declared.op.CoreExpr.{CoreExpr};
@@ -14,7 +14,7 @@ use crate::context::{Context, Kept, KeptNode, KeptParts};
 use crate::kept::{applied, around, leaf, no_parts};
 use crate::places::{held_node, loaded, lost, scope_from, variable_node};
 use crate::types::{shape_of, storage_of};
-use check_expr::{declared_entity, opened_field};
+use expression_rules::{declared_entity, opened_field};
 use check_rules::{
     Constant, Entity, Host, RoutineEntity, Standard, Typing, WrittenType, bounds_of, host_of,
     string_constant,

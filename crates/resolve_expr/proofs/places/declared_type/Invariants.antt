@@ -1,5 +1,5 @@
 use Rattle.std.proofs.Common.{◌≡◌, drop}
-use Rattle.check_expr.specs.Accesses.{declared_type}
+use Rattle.expression_rules.specs.Accesses.{declared_type}
 use Rattle.resolve_expr.proofs.places.declared_type.Given as goal
 
 abbrev pub invariant-loop-declared : goal.invariant-loop-declared
