@@ -11,7 +11,8 @@ use dice_base::NoMemory;
 use pascal_tree::{Constant as WrittenConstant, Prefix};
 use std::alloc::Global;
 
-fn integer_constant(value: i32) -> JudgedConstant
+/// An integer, as a constant. Takes no memory.
+pub fn integer_constant(value: i32) -> JudgedConstant
     ensures { result ≡ spec.integer_constant value }
 {
     JudgedConstant {
@@ -31,7 +32,8 @@ fn opposite(value: i32) -> i32
     }
 }
 
-fn signed_number(prefix: Prefix, value: i32) -> i32
+/// A number with its sign. Takes no memory.
+pub fn signed_number(prefix: Prefix, value: i32) -> i32
     ensures { result ≡ spec.signed_number prefix value }
 {
     match prefix {
@@ -88,7 +90,8 @@ fn signed_constant(
     }
 }
 
-fn named_constant(
+/// A constant that an identifier names, with its sign, where the identifier stands for this.
+pub fn named_constant(
     alloc: Global,
     table: &[WrittenType],
     prefix: Prefix,

@@ -12,7 +12,7 @@ mod state;
 mod types;
 mod typing;
 
-pub use constants::{constant_of, number_in};
+pub use constants::{constant_of, integer_constant, named_constant, number_in, signed_number};
 pub use enumerations::push_constants;
 pub use headings::{HeadingWalk, JudgedHeading, heading_of, is_bare_heading, lacks_result};
 pub use state::{RecordWalk, TypeState, Typed};

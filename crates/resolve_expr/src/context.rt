@@ -1,8 +1,8 @@
 //! Where an expression stands, and what is kept of it.
-use expression_rules::Env;
 use check_rules::{Host, Typing};
 use core_tree::CoreExpr;
 use dice_base::Name;
+use expression_rules::Env;
 use sqlite_items::Items;
 
 /// The program or a routine, with its level, 0 for the program, and the words of its result, parameters and variables.

@@ -16,9 +16,9 @@ use crate::values::{
     alone_node, call_with, nil_node, number_node, place_argument, standard_alone, standard_with,
     string_node, value_argument,
 };
-use expression_rules::{declared_entity, opened_field};
 use check_rules::{Entity, Parameter, Standard};
 use dice_base::NoMemory;
+use expression_rules::{declared_entity, opened_field};
 use pascal_tree::{
     Access, AccessPart, AddPart, Arg, Expr, Factor, MulPart, Prefix, SetMember, SumExpr, Term,
 };

@@ -1,5 +1,5 @@
 //! Operations over parts of which only as much is kept as a block can have.
-ghost use Rattle.std.specs.Prelude.{◌≡◌, [], ◌∷◌, IfOk, true};
+ghost use Rattle.std.specs.Prelude.{◌≡◌, List, [], ◌∷◌, ◌++◌, IfOk, true};
 ghost use Rattle.core_tree.specs.Charge.{counted_charge};
 ghost use Rattle.core_tree.specs.declared.op.CoreExpr.{CoreExpr};
 ghost use Rattle.resolve_expr.specs.Kept as spec;
@@ -64,6 +64,15 @@ pub fn with_part(parts: KeptParts, part: Kept) -> Result<KeptParts, NoMemory>
         charge: counted(words),
         exprs,
     })
+}
+
+/// Parts, and one more behind them, where it is known of what they are kept.
+#[tactic(auto, using(crate::proofs::Keeping::kept_with_part))]
+pub fn appended(parts: KeptParts, part: Kept) -> Result<KeptParts, NoMemory>
+    ensures { (es : List CoreExpr) (e : CoreExpr) → parts ≡ spec.kept_parts es → part ≡ spec.kept e
+        → IfOk result (λ ps. ps ≡ spec.kept_parts (es ++ e ∷ [])) }
+{
+    with_part(parts, part)
 }
 
 #[tactic(auto, unfolding(crate::specs::Kept::operation))]

@@ -8,10 +8,10 @@ ghost use Rattle.resolve_expr.specs.Nodes as spec;
 
 use crate::context::KeptNode;
 use crate::kept::{around, both};
-use expression_rules::{product_type, sum_type};
 use check_rules::{Host, Typing, WrittenType, set_of, string_length};
 use core_tree::{Op, Relation, SetOp, WordOp};
 use dice_base::NoMemory;
+use expression_rules::{product_type, sum_type};
 use pascal_tree::{AddOp, MulOp, Prefix, RelOp};
 use std::alloc::Global;
 

@@ -8,13 +8,13 @@ ghost use Rattle.resolve_expr.specs.Nodes as spec;
 use crate::context::{Context, KeptNode, OwnerWords};
 use crate::kept::{around, both, leaf};
 use crate::types::{load_of, shape_of, storage_of};
-use expression_rules::{Env, declared_entity, opened_field};
 use check_rules::{
     Domain, Entity, Field, FieldType, Structure, Typing, Variable, WrittenType, bounds_of,
     domain_of, structure_at, words_of,
 };
 use core_tree::{Op, PlaceOp, Scope, Variable as Place, WordOp};
 use dice_base::{Name, NoMemory};
+use expression_rules::{Env, declared_entity, opened_field};
 use std::alloc::Global;
 
 /// What breaks a rule of the check: it has no meaning, and any operation stands for it. Takes no memory.
@@ -206,7 +206,8 @@ fn declared_type(domains: &[(Name, Typing)], name: Name) -> Typing
     Typing::Unknown
 }
 
-fn domain_type(domains: &[(Name, Typing)], domain: Domain) -> Typing
+/// The type to which a pointer of this domain leads. Takes no memory.
+pub fn domain_type(domains: &[(Name, Typing)], domain: Domain) -> Typing
     ensures { result ≡ accesses.domain_type domains.now domain }
 {
     match domain {

@@ -14,13 +14,13 @@ use crate::context::{Context, Kept, KeptNode, KeptParts};
 use crate::kept::{applied, around, leaf, no_parts};
 use crate::places::{held_node, loaded, lost, scope_from, variable_node};
 use crate::types::{shape_of, storage_of};
-use expression_rules::{declared_entity, opened_field};
 use check_rules::{
     Constant, Entity, Host, RoutineEntity, Standard, Typing, WrittenType, bounds_of, host_of,
     string_constant,
 };
 use core_tree::{Callee, Op, Shape, WordOp};
 use dice_base::{NoMemory, Text};
+use expression_rules::{declared_entity, opened_field};
 use std::alloc::Global;
 
 /// A number of the text (ISO 7185:1990, 6.1.5). Takes no memory.

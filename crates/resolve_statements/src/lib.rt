@@ -1,0 +1,14 @@
+//! Statements without their identifiers: what each does by its own text (ISO 7185:1990, 6.8 and 6.9).
+//!
+//! In `specs/`: a rule for each form of statement (`Forms`), and their fold over the tree (`Statements`). Of a form only as
+//! much is kept as a block can have, with the whole count of its words of code.
+#![tactic(auto)]
+
+mod assign;
+mod calls;
+mod form;
+mod parts;
+
+pub use assign::{assign_form, target_node, value_form};
+pub use calls::{Transfer, dispose_form, lost_form, new_form, routine_form, transfer_form};
+pub use form::{KeptForm, form_with};
