@@ -1,0 +1,13 @@
+//! Whole expressions and accesses, judged (ISO 7185:1990, 6.5 and 6.7): their types, the least kind of fault in them, and
+//! what they pass as variable arguments. The code gives the judgements of `expression_rules`.
+#![tactic(auto)]
+
+mod accesses;
+mod arguments;
+mod expressions;
+
+pub use accesses::access_in;
+pub use arguments::{change_of, is_file};
+pub use expressions::{
+    all_notes, argument_notes, arguments_notes, judgement_of, place_of, refused_width, width_notes,
+};
