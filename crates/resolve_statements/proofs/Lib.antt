@@ -1,2 +1,4 @@
+pub mod Arguments
 pub mod Keeping
-pub mod Parts
+pub mod Opened
+pub mod Targets

@@ -1,6 +1,6 @@
 -- Statements without their identifiers (ISO 7185:1990, 6.8 and 6.9): a rule for each form, whose expressions stand resolved
 -- already. What breaks a rule of the check has no meaning here, and is given any form.
-use Rattle.std.specs.Prelude.{ℕ, ◌+◌, min, ℤ, Bool, true, false, ◌&&◌, not, if◌then◌else◌, List, [], ◌∷◌, ◌++◌, map, Option, Some, None, is_some}
+use Rattle.std.specs.Prelude.{ℕ, ◌+◌, min, ℤ, Bool, true, false, ◌&&◌, not, if◌then◌else◌, List, [], ◌∷◌, ◌++◌, map, take, Option, Some, None, is_some}
 use Rattle.pascal_tree.specs.declared.stmt.Constant.{Constant as WrittenConstant}
 use Rattle.check_rules.specs.declared.typing.Host.{Host}
 use Rattle.check_rules.specs.declared.typing.Host.TheVariants as host
@@ -199,6 +199,10 @@ AccessNode = Context → Node
 abbrev pub context_with : Context → List AccessNode → Context
 context_with c [] = c
 context_with c (a ∷ others) = context_with (context_opening c (a c).typing) others
+
+-- only the first so many records stay open, with these holds
+abbrev pub context_closed : Context → ℕ → ℕ → Context
+context_closed c count holds = record c { env = record (c.env) { opened = take count c.env.opened; holds = holds } }
 
 abbrev pub hold_effect : Context → Node → CoreExpr
 hold_effect c p = one (op.Effect (effect.Hold (c.env.holds + 1) (words_of c.env.table p.typing))) None p

@@ -41,7 +41,6 @@ fn target_of(alloc: Global, context: &Context, place: KeptNode, ident: &[u8]) ->
 }
 
 /// The place to which an assignment goes.
-#[tactic(auto, using(crate::proofs::Parts::parted_target, crate::proofs::Parts::whole_target))]
 pub fn target_node(alloc: Global, context: &Context, access: &Access) -> Result<KeptNode, NoMemory>
     ensures { IfOk result (λ r. r ≡ nodes.kept_node (spec.target_node context.now (folds.access_of context.now access.now))) }
 {

@@ -1,5 +1,5 @@
 //! Procedure statements (ISO 7185:1990, 6.8.2.3): calls, reading and writing (6.9), and the heap (6.6.5.3).
-ghost use Rattle.std.specs.Prelude.{◌≡◌, [], ◌∷◌, map, IfOk, None};
+ghost use Rattle.std.specs.Prelude.{◌≡◌, [], ◌∷◌, map, IfOk, None, Some};
 ghost use Rattle.check_rules.specs.Typing as types;
 ghost use Rattle.resolve_expr.specs.Kept as kept_spec;
 ghost use Rattle.resolve_expr.specs.Nodes as nodes;
@@ -57,12 +57,35 @@ fn written_in(table: &[WrittenType], typing: Typing) -> Written
     }
 }
 
-fn read_effect(alloc: Global, table: &[WrittenType], place: KeptNode) -> Result<Kept, NoMemory>
+fn read_effect(alloc: Global, context: &Context, place: KeptNode) -> Result<Kept, NoMemory>
     ensures { (x : nodes.Node) → place ≡ nodes.kept_node x
-        → IfOk result (λ k. k ≡ kept_spec.kept (spec.read_effect table.now x)) }
+        → IfOk result (λ k. k ≡ kept_spec.kept (spec.read_effect context.now.env.table x)) }
 {
-    let op = Op::Effect(read_op(table, place.typing));
+    let op = Op::Effect(read_op(context.env.table.as_slice(), place.typing));
     around(alloc, op, None, place.kept)
+}
+
+fn written_alone(alloc: Global, context: &Context, value: KeptNode) -> Result<Kept, NoMemory>
+    ensures { (x : nodes.Node) → value ≡ nodes.kept_node x
+        → IfOk result (λ k. k ≡ kept_spec.kept (spec.write_effect context.now.env.table x None)) }
+{
+    let written = written_in(context.env.table.as_slice(), value.typing);
+    let op = Op::Effect(EffectOp::Write(written, false));
+    around(alloc, op, None, value.kept)
+}
+
+fn written_in_width(
+    alloc: Global,
+    context: &Context,
+    value: KeptNode,
+    width: KeptNode,
+) -> Result<Kept, NoMemory>
+    ensures { (x : nodes.Node) (w : nodes.Resolved) → value ≡ nodes.kept_node x → width ≡ nodes.kept_node w.node
+        → IfOk result (λ k. k ≡ kept_spec.kept (spec.write_effect context.now.env.table x (Some w))) }
+{
+    let written = written_in(context.env.table.as_slice(), value.typing);
+    let op = Op::Effect(EffectOp::Write(written, true));
+    both(alloc, op, None, value.kept, width.kept)
 }
 
 fn write_effect(
@@ -74,18 +97,11 @@ fn write_effect(
     ensures { (x : nodes.Node) → value ≡ nodes.kept_node x
         → IfOk result (λ k. k ≡ kept_spec.kept (spec.write_effect context.now.env.table x (folds.argument_of context.now arg.now).width)) }
 {
-    let written = written_in(context.env.table.as_slice(), value.typing);
     match &arg.width {
-        None => around(
-            alloc,
-            Op::Effect(EffectOp::Write(written, false)),
-            None,
-            value.kept,
-        ),
-        Some(width) => {
-            let width = node_of(alloc, context, width)?;
-            let op = Op::Effect(EffectOp::Write(written, true));
-            both(alloc, op, None, value.kept, width.kept)
+        None => written_alone(alloc, context, value),
+        Some(expr) => {
+            let width = node_of(alloc, context, expr)?;
+            written_in_width(alloc, context, value, width)
         }
     }
 }
@@ -101,7 +117,7 @@ fn effect_of(
     match transfer {
         Transfer::Reading => {
             let place = place_in(alloc, context, &arg.value)?;
-            read_effect(alloc, context.env.table.as_slice(), place)
+            read_effect(alloc, context, place)
         }
         Transfer::Writing => {
             let value = node_of(alloc, context, &arg.value)?;

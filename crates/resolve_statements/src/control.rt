@@ -86,7 +86,10 @@ pub fn case_labels(alloc: Global, env: &Env, arms: &[Arm]) -> Result<Items<CaseL
     let mut number: u32 = 0;
     for arm in arms {
         push_arm_labels(alloc, env, number, arm.constants.as_slice(), &mut labels)?;
-        number = number.checked_add(1).ok_or(NoMemory)?;
+        if number == u32::MAX {
+            return Err(NoMemory);
+        }
+        number += 1;
     }
     Ok(labels)
 }
@@ -143,12 +146,22 @@ pub fn for_form(
     }
 }
 
-fn hold_effect(alloc: Global, context: &Context, hold: u32, place: KeptNode) -> Result<Kept, NoMemory>
+fn hold_effect(
+    alloc: Global,
+    context: &Context,
+    hold: u32,
+    place: KeptNode,
+) -> Result<Kept, NoMemory>
     ensures { (x : nodes.Node) → place ≡ nodes.kept_node x → hold ≡ context.now.env.holds + 1
         → IfOk result (λ k. k ≡ kept_spec.kept (spec.hold_effect context.now x)) }
 {
     let words = words_of(context.env.table.as_slice(), place.typing);
-    around(alloc, Op::Effect(EffectOp::Hold(hold, words)), None, place.kept)
+    around(
+        alloc,
+        Op::Effect(EffectOp::Hold(hold, words)),
+        None,
+        place.kept,
+    )
 }
 
 /// Opens a record of this type: its fields hide what is declared around the statements in it.
@@ -160,11 +173,7 @@ pub fn open_record(context: &mut Context, typing: Typing, hold: u32) -> Result<(
     Ok(())
 }
 
-fn opened_effect(
-    alloc: Global,
-    context: &mut Context,
-    access: &Access,
-) -> Result<Kept, NoMemory>
+fn opened_effect(alloc: Global, context: &mut Context, access: &Access) -> Result<Kept, NoMemory>
     ensures value { IfOk result (λ k. k ≡ kept_spec.kept (spec.hold_effect context.old (statements.access_node access.now context.old))) }
     ensures opened { OnOk result (context.new ≡ spec.context_opening context.old (statements.access_node access.now context.old).typing) }
 {

@@ -6,9 +6,11 @@
 
 mod assign;
 mod calls;
+mod control;
 mod form;
 mod parts;
 
 pub use assign::{assign_form, target_node, value_form};
 pub use calls::{Transfer, dispose_form, lost_form, new_form, routine_form, transfer_form};
+pub use control::{case_labels, for_form, hold_effects, open_record};
 pub use form::{KeptForm, form_with};

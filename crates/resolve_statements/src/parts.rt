@@ -19,6 +19,7 @@ pub fn two_parts(alloc: Global, first: Kept, second: Kept) -> Result<KeptParts, 
     ensures { (x y : CoreExpr) → first ≡ spec.kept x → second ≡ spec.kept y
         → IfOk result (λ ps. ps ≡ spec.kept_parts (x ∷ (y ∷ []))) }
 {
-    let parts = appended(no_parts(alloc), first)?;
-    appended(parts, second)
+    let one = appended(no_parts(alloc), first)?;
+    let two = appended(one, second)?;
+    Ok(two)
 }

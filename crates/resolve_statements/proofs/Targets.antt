@@ -1,5 +1,5 @@
 -- Parts, one longer; targets; arguments.
-use Rattle.std.proofs.Common.{◌≡◌, ℕ, zero, suc, ◌+◌, ◌<◌, Bool, true, false, List, [], ◌∷◌, ◌++◌, length, map, take, get_or, Option, refl, ap, sym, ◌∙◌, arith}
+use Rattle.std.proofs.Common.{◌≡◌, ℕ, ◌<◌, if◌then◌else◌, Bool, true, false, List, [], ◌∷◌, ◌++◌, length, map, take, get_or, Option, refl, ap, sym, ◌∙◌, arith}
 use Rattle.pascal_tree.specs.declared.expr.Access.{Access, out-Access}
 use Rattle.pascal_tree.specs.declared.expr.Arg.{Arg, out-Arg}
 use Rattle.pascal_tree.specs.declared.expr.AccessPart.TheFolds.{fold_out-Access, fold_out-Arg}
