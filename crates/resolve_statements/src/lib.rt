@@ -9,8 +9,10 @@ mod calls;
 mod control;
 mod form;
 mod parts;
+mod statements;
 
 pub use assign::{assign_form, target_node, value_form};
 pub use calls::{Transfer, dispose_form, lost_form, new_form, routine_form, transfer_form};
 pub use control::{case_labels, for_form, hold_effects, open_record};
 pub use form::{KeptForm, form_with};
+pub use statements::own_form;

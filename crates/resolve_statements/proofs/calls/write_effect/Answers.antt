@@ -1,3 +1,4 @@
+use Rattle.resolve_expr.specs.Expressions as folds
 use Rattle.resolve_statements.proofs.Arguments.{width_of}
 use Rattle.resolve_statements.proofs.calls.write_effect.Goals as goal
 
@@ -6,4 +7,4 @@ returns-in-None c = λ x is. rw (width_of c.args.context.now c.args.arg.now) (rw
 
 pub returns-in_ok-width-in-Some : goal.returns-in_ok-width-in-Some
 returns-in_ok-width-in-Some c = λ x is.
-    rw (width_of c.args.context.now c.args.arg.now) (rw c.in-Some.is (c.written_in_width.ensures x _ is c.in_ok-width-in-Some.ensures))
+    rw (width_of c.args.context.now c.args.arg.now) (rw c.in-Some.is (c.written_in_width.ensures x (folds.value_of c.args.context.now c.in-Some.expr) is c.in_ok-width-in-Some.ensures))
