@@ -5,9 +5,11 @@
 mod accesses;
 mod arguments;
 mod expressions;
+mod functions;
+mod sets;
 
 pub use accesses::access_in;
-pub use arguments::{change_of, is_file};
+pub use arguments::{change_at, change_of, is_file};
 pub use expressions::{
     all_notes, argument_notes, arguments_notes, judgement_of, place_of, refused_width, width_notes,
 };
