@@ -1,5 +1,5 @@
 -- Notes of arguments one after another, and members, one longer.
-use Rattle.std.proofs.Common.{IfOk, Result, ◌≡◌, ℕ, zero, suc, ◌+◌, ◌<◌, ◌≤◌, min, Bool, true, false, ◌||◌, nat_eq, List, [], ◌∷◌, ◌++◌, length, map, take, drop, get_or, refl, ap, sym, ◌∙◌, arith}
+use Rattle.std.proofs.Common.{IfOk, Result, ◌≡◌, ℕ, zero, suc, ◌+◌, ◌-◌, ◌<◌, ◌≤◌, min, Bool, true, false, ◌||◌, nat_eq, List, [], ◌∷◌, ◌++◌, length, map, take, drop, get_or, refl, ap, sym, ◌∙◌, arith}
 use Rattle.std.proofs.lemmas.List.{append_assoc, append-nil}
 use Rattle.std.proofs.Math.ListN.{drop_of_length-le}
 use Rattle.std.proofs.Math.Nat.{min_comm}
@@ -9,7 +9,9 @@ use Rattle.check_rules.specs.declared.entity.Parameter.{Parameter}
 use Rattle.check_rules.specs.declared.entity.Standard.{Standard}
 use Rattle.check_rules.specs.Typing.{Table}
 use Rattle.check_rules.specs.Faults.{kind_unless}
+use Rattle.check_rules.specs.declared.typing.Typing.{Typing}
 use Rattle.expression_rules.specs.declared.notes.Notes.{Notes}
+use Rattle.expression_rules.specs.declared.notes.Judged.{Judged}
 use Rattle.expression_rules.specs.Values.{VariableName, Argument, Members, judgement, no_notes, notes_of_both, notes_with, members_from}
 use Rattle.expression_rules.specs.Accesses.{is_nil, all_notes, argument_notes, arguments_notes, argument_notes_for, one_argument_value, result_of}
 use Rattle.expression_rules.specs.ExpressionRules.{Member}
@@ -56,13 +58,32 @@ pub all_turn : {A : Type 0} (f : A → Argument) (xs : List A) (i : ℕ) (x : A)
     → all_notes (map f (take (i + 1) xs)) ≡ notes_of_both (all_notes (map f (take i xs))) (whole_notes (f x))
 all_turn f xs i x inside is = ap all_notes (map_next f xs i x inside is) ∙ all_snoc (map f (take i xs)) (f x)
 
-pub plain_turn : {A : Type 0} (f : A → Argument) (xs : List A) (i : ℕ) (x : A) → i < length xs → x ≡ get_or xs i x
+plain_turn : {A : Type 0} (f : A → Argument) (xs : List A) (i : ℕ) (x : A) → i < length xs → x ≡ get_or xs i x
     → argument_notes (map f (take (i + 1) xs)) ≡ notes_of_both (argument_notes (map f (take i xs))) (plain_notes (f x))
 plain_turn f xs i x inside is = ap argument_notes (map_next f xs i x inside is) ∙ plain_snoc (map f (take i xs)) (f x)
 
 pub members_turn : {A : Type 0} (tys : Table) (s : Members) (f : A → Member) (xs : List A) (i : ℕ) (x : A) → i < length xs → x ≡ get_or xs i x
     → members_from tys s (map f (take (i + 1) xs)) ≡ with_member tys (members_from tys s (map f (take i xs))) (f x)
 members_turn tys s f xs i x inside is = ap (members_from tys s) (map_next f xs i x inside is) ∙ members_snoc tys s (map f (take i xs)) (f x)
+
+pub plain_next : {A : Type 0} (f : A → Argument) (xs : List A) (i : ℕ) (x : A) (n more m : Notes) → i < length xs → x ≡ get_or xs i x
+    → n ≡ argument_notes (map f (take i xs)) → more ≡ plain_notes (f x) → m ≡ notes_of_both n more → m ≡ argument_notes (map f (take (i + 1) xs))
+plain_next f xs i x n more m inside is before one both =
+    both ∙ (ap (λ k. notes_of_both k more) before ∙ (ap (notes_of_both (argument_notes (map f (take i xs)))) one ∙ sym (plain_turn f xs i x inside is)))
+
+take_all : {A : Type 0} (i : ℕ) (xs : List A) → length xs ≤ i → take i xs ≡ xs
+take_all zero [] done = refl
+take_all (suc i) [] done = refl
+take_all zero (x ∷ xs) done = absurd (omega (arith, done))
+take_all (suc i) (x ∷ xs) done = ap (λ ys. x ∷ ys) (take_all i xs (omega (arith, done)))
+
+all_behind : {A : Type 0} (xs : List A) → take (length xs - 1) (drop 1 xs) ≡ drop 1 xs
+all_behind [] = refl
+all_behind (x ∷ xs) = let e : suc (length xs) - 1 ≡ length xs = omega arith in rw e (take_all (length xs) xs (omega arith))
+
+pub behind_end : {A : Type 0} (f : A → Argument) (xs : List A) (i : ℕ) (n : Notes) → length (take (length xs - 1) (drop 1 xs)) ≤ i
+    → n ≡ argument_notes (map f (take i (take (length xs - 1) (drop 1 xs)))) → n ≡ argument_notes (map f (drop 1 xs))
+behind_end f xs i n done is = is ∙ ap (λ ys. argument_notes (map f ys)) (take_all i (take (length xs - 1) (drop 1 xs)) done ∙ all_behind xs)
 
 -- ---- arguments beside parameters
 
@@ -129,7 +150,7 @@ arguments_end tys over f ps left args i notes done same =
 
 -- ---- a predeclared function of one argument
 
-pub one_is : {A : Type 0} (tys : Table) (function : Standard) (f : A → Argument) (args : List A) (x : A) → 0 < length args → x ≡ get_or args 0 x
+one_is : {A : Type 0} (tys : Table) (function : Standard) (f : A → Argument) (args : List A) (x : A) → 0 < length args → x ≡ get_or args 0 x
     → one_argument_value tys function (map f args)
     ≡ judgement (result_of tys function (f x).value.judged.typing)
     (notes_with (notes_from (f x).value.judged.notes (map f args)) (kind_of_one tys function (f x).value.judged.typing (nat_eq (length args) 1)))
@@ -138,3 +159,10 @@ one_is tys function f (y ∷ []) x some is = rw is refl
 one_is tys function f (y ∷ (z ∷ ys)) x some is =
     rw is (ap (λ only. judgement (result_of tys function (f y).value.judged.typing) (notes_with (notes_from (f y).value.judged.notes (map f (y ∷ (z ∷ ys)))) (kind_of_one tys function (f y).value.judged.typing only)))
     (sym (eqb-suc-suc (suc (length ys)) 0 ∙ eqb-suc-zero (length ys))))
+
+pub one_by : {A : Type 0} (tys uys vys : Table) (function : Standard) (f : A → Argument) (args : List A) (x : A) (v : Judged) (n m : Notes) (k : ℕ) (t : Typing)
+    → 0 < length args → x ≡ get_or args 0 x → uys ≡ tys → vys ≡ tys → v ≡ (f x).value.judged → n ≡ notes_from v.notes (map f args)
+    → k ≡ kind_of_one uys function v.typing (nat_eq (length args) 1) → t ≡ result_of vys function v.typing → m ≡ notes_with n k
+    → ◌≡◌ {A = Judged} (record { typing = t; notes = m }) (one_argument_value tys function (map f args))
+one_by tys uys vys function f args x v n m k t some is table table' value notes kind made noted =
+    rw (one_is tys function f args x some is) (rw made (rw noted (rw kind (rw notes (rw value (rw table (rw table' refl)))))))

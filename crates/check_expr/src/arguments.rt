@@ -113,18 +113,19 @@ pub fn change_of(
 }
 
 /// The same of an access.
-pub fn change_at(
-    alloc: Global,
-    env: &Env,
-    access: &Access,
-) -> Result<Items<(u32, Text)>, NoMemory>
+pub fn change_at(alloc: Global, env: &Env, access: &Access) -> Result<Items<(u32, Text)>, NoMemory>
     ensures { IfOk result (λ c. c ≡ accesses.change_of (accesses.entity_at env.now (out-Access access.now).ident) (out-Access access.now).ident (accesses.is_nil (out-Access access.now).parts)) }
 {
     let None = opened_field(env, access.ident.bytes()) else {
         return Ok(Items::new(alloc));
     };
     let entity = declared_entity(env, access.ident.bytes());
-    change_of(alloc, entity, &access.ident, access.parts.as_slice().is_empty())
+    change_of(
+        alloc,
+        entity,
+        &access.ident,
+        access.parts.as_slice().is_empty(),
+    )
 }
 
 fn known_notes(

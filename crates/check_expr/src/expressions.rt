@@ -12,9 +12,7 @@ ghost use Rattle.check_expr.specs.Steps as steps;
 
 use crate::accesses::{access_in, no_place};
 use crate::arguments::{behind, is_file, leads_to_variable, passed_notes, value_notes};
-use crate::functions::{
-    alone, is_function, judged, kind_of_one, place_value, result_of,
-};
+use crate::functions::{alone, is_function, judged, kind_of_one, place_value, result_of};
 use crate::sets::{Collected, no_members, set_of_members, with_value};
 use check_rules::{
     CLEAN, Entity, Host, Parameter, RoutineEntity, Standard, StandardFile, Typing, UNKNOWN,
@@ -50,12 +48,7 @@ fn components_place(
 
 #[cycle(judgement_of)]
 #[tactic(auto, unfolding(expression_rules::specs::Expressions::part_of, expression_rules::specs::Expressions::value_of))]
-fn part_place(
-    alloc: Global,
-    env: &Env,
-    place: Place,
-    part: &AccessPart,
-) -> Result<Place, NoMemory>
+fn part_place(alloc: Global, env: &Env, place: Place, part: &AccessPart) -> Result<Place, NoMemory>
     ensures { IfOk result (λ p. p ≡ spec.part_of env.now part.now place) }
 {
     match part {
@@ -343,20 +336,20 @@ fn input_notes(alloc: Global, env: &Env, args: &[Arg]) -> Result<Notes, NoMemory
 fn notes_behind(alloc: Global, env: &Env, args: &[Arg]) -> Result<Notes, NoMemory>
     ensures { IfOk result (λ n. n ≡ accesses.argument_notes (map (spec.argument_of env.now) (drop 1 args.now))) }
 {
-    match args {
-        [] => Ok(notes_of(alloc, CLEAN)),
-        [_, rest @ ..] => argument_notes(alloc, env, rest),
+    let mut notes = notes_of(alloc, CLEAN);
+    let [_, rest @ ..] = args else {
+        return Ok(notes);
+    };
+    for arg in rest {
+        let more = plain_notes(alloc, env, arg)?;
+        notes = notes_of_both(notes, more)?;
     }
+    Ok(notes)
 }
 
 // Arguments that may have no widths, where the notes of the value of the first are known.
 #[cycle(judgement_of)]
-fn notes_from(
-    alloc: Global,
-    env: &Env,
-    first: Notes,
-    args: &[Arg],
-) -> Result<Notes, NoMemory>
+fn notes_from(alloc: Global, env: &Env, first: Notes, args: &[Arg]) -> Result<Notes, NoMemory>
     ensures { IfOk result (λ n. n ≡ steps.notes_from first (map (spec.argument_of env.now) args.now)) }
 {
     let [arg, ..] = args else {
@@ -412,12 +405,7 @@ fn standard_value(
 }
 
 #[cycle(judgement_of)]
-fn no_function_value(
-    alloc: Global,
-    env: &Env,
-    args: &[Arg],
-    kind: u8,
-) -> Result<Judged, NoMemory>
+fn no_function_value(alloc: Global, env: &Env, args: &[Arg], kind: u8) -> Result<Judged, NoMemory>
     ensures { IfOk result (λ j. j ≡ accesses.no_function_value (map (spec.argument_of env.now) args.now) kind) }
 {
     let notes = all_notes(alloc, env, args)?;
@@ -463,12 +451,7 @@ fn standard_call(
 
 // A function with its arguments.
 #[cycle(judgement_of)]
-fn function_value(
-    alloc: Global,
-    env: &Env,
-    ident: &[u8],
-    args: &[Arg],
-) -> Result<Judged, NoMemory>
+fn function_value(alloc: Global, env: &Env, ident: &[u8], args: &[Arg]) -> Result<Judged, NoMemory>
     ensures { IfOk result (λ j. j ≡ accesses.function_value env.now (map (spec.argument_of env.now) args.now) (accesses.entity_at env.now ident.now)) }
 {
     let None = opened_field(env, ident) else {
@@ -543,12 +526,7 @@ fn factor_judgement(alloc: Global, env: &Env, factor: &Factor) -> Result<Judged,
 
 #[cycle(judgement_of)]
 #[tactic(auto, using(expression_rules::proofs::Ranks::multiplied_is))]
-fn product_with(
-    alloc: Global,
-    env: &Env,
-    first: Judged,
-    part: &MulPart,
-) -> Result<Judged, NoMemory>
+fn product_with(alloc: Global, env: &Env, first: Judged, part: &MulPart) -> Result<Judged, NoMemory>
     ensures { IfOk result (λ j. j ≡ rules.product_with env.now.table first (spec.multiplying_of env.now part.now)) }
 {
     let right = factor_judgement(alloc, env, &part.right)?;
@@ -583,12 +561,7 @@ fn term_judgement(alloc: Global, env: &Env, term: &Term) -> Result<Judged, NoMem
 
 #[cycle(judgement_of)]
 #[tactic(auto, using(expression_rules::proofs::Ranks::added_is))]
-fn sum_with(
-    alloc: Global,
-    env: &Env,
-    first: Judged,
-    part: &AddPart,
-) -> Result<Judged, NoMemory>
+fn sum_with(alloc: Global, env: &Env, first: Judged, part: &AddPart) -> Result<Judged, NoMemory>
     ensures { IfOk result (λ j. j ≡ rules.sum_with env.now.table first (spec.adding_of env.now part.now)) }
 {
     let right = term_judgement(alloc, env, &part.right)?;

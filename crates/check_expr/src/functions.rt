@@ -8,8 +8,8 @@ ghost use Rattle.check_rules.specs.declared.entity.Entity.TheVariants.{RoutineOf
 ghost use Rattle.check_expr.specs.Steps as steps;
 
 use check_rules::{
-    CLEAN, Entity, Host, Parameter, RoutineEntity, Standard, Typing, WRONG_ARGUMENTS, WRONG_TYPE, WrittenType,
-    host_of, kind_unless, least,
+    CLEAN, Entity, Host, Parameter, RoutineEntity, Standard, Typing, WRONG_ARGUMENTS, WRONG_TYPE,
+    WrittenType, host_of, kind_unless, least,
 };
 use expression_rules::{
     Env, Judged, Notes, Place, declared_entity, first_place, may_be_host, may_be_ordinal, notes_of,

@@ -4,7 +4,7 @@ use Rattle.expression_rules.specs.Expressions as spec
 use Rattle.expression_rules.specs.Values as values
 use Rattle.check_expr.specs.Steps as steps
 use Rattle.check_expr.proofs.Sole.{sole_factor}
-use Rattle.check_expr.proofs.Chains.{all_turn, plain_turn, members_turn, arguments_end, one_is}
+use Rattle.check_expr.proofs.Chains.{all_turn, plain_next, behind_end, members_turn, arguments_end, one_by}
 use Rattle.check_expr.proofs.Cases.{alone_is, no_variable_is, variable_is, member_alone, member_range}
 use Rattle.check_expr.proofs.expressions.+judgement_of.Goals as goal
 
@@ -23,10 +23,22 @@ all_notes-loop-arg-preserved t c =
 
 pub argument_notes-loop-arg-preserved : goal.argument_notes-loop-arg-preserved
 argument_notes-loop-arg-preserved t c =
-    c.in_ok-notes.ensures
-    ∙ (ap (λ n. values.notes_of_both n c.in_ok-more.more) c.loop-arg.invariant
-    ∙ (ap (values.notes_of_both (accesses.argument_notes (map (spec.argument_of c.args.env.now) (take c.loop-arg.arg-index c.args.args.now)))) c.in_ok-more.ensures
-    ∙ sym (plain_turn (spec.argument_of c.args.env.now) c.args.args.now c.loop-arg.arg-index c.arg-item.result c.loop-arg-test.true c.arg-item.is)))
+    plain_next (spec.argument_of c.args.env.now) c.args.args.now c.loop-arg.arg-index c.arg-item.result c.loop-arg.notes c.in_ok-more.more c.in_ok-notes.notes
+    c.loop-arg-test.true c.arg-item.is c.loop-arg.invariant c.in_ok-more.ensures c.in_ok-notes.ensures
+
+pub notes_behind-loop-arg-preserved : goal.notes_behind-loop-arg-preserved
+notes_behind-loop-arg-preserved t c =
+    plain_next (spec.argument_of c.args.env.now) _ c.loop-arg.arg-index c.arg-item.result c.loop-arg.notes c.in_ok-more.more c.in_ok-notes.notes
+    c.loop-arg-test.true c.arg-item.is c.loop-arg.invariant c.in_ok-more.ensures c.in_ok-notes.ensures
+
+pub notes_behind-returns : goal.notes_behind-returns
+notes_behind-returns t c =
+    behind_end (spec.argument_of c.args.env.now) c.args.args.now c.loop-arg.arg-index c.loop-arg.notes (omega (arith, c.loop-arg-test.false, c.loop-arg.auto.arg-index-end)) c.loop-arg.invariant
+
+pub one_argument_value-returns : goal.one_argument_value-returns
+one_argument_value-returns t c =
+    one_by c.args.env.now.table c.as_slice.result.now c.as_slice-2.result.now c.args.function (spec.argument_of c.args.env.now) c.args.args.now c.first-item.result c.in_ok-value.value c.in_ok-notes.notes c.notes_with.result c.kind_of_one-kind.result c.result_of.result
+    (omega (arith, c.in-len1-up.len_at_least)) c.first-item.is c.as_slice.ensures c.as_slice-2.ensures c.in_ok-value.ensures c.in_ok-notes.ensures c.kind_of_one-kind.ensures c.result_of.ensures c.notes_with.ensures
 
 pub arguments_notes-returns : goal.arguments_notes-returns
 arguments_notes-returns t c =

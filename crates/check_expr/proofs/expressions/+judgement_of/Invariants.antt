@@ -35,3 +35,6 @@ invariant-product_of_all-loop-part l =
 abbrev pub invariant-sum_of_all-loop-part : goal.invariant-sum_of_all-loop-part
 invariant-sum_of_all-loop-part l =
     rules.sum_of_all l.env.table l.fn.first (map (spec.adding_of l.env) l.parts) ≡ rules.sum_of_all l.env.table l.so_far (map (spec.adding_of l.env) (drop l.part-index l.parts))
+
+abbrev pub invariant-notes_behind-loop-arg : goal.invariant-notes_behind-loop-arg
+invariant-notes_behind-loop-arg l = l.notes ≡ accesses.argument_notes (map (spec.argument_of l.env) (take l.arg-index l.rest))
