@@ -1,5 +1,5 @@
 -- What an identifier alone is, and what is passed by its place, by cases.
-use Rattle.std.proofs.Common.{IfOk, Result, ◌≡◌, ℕ, ◌<◌, Bool, true, false, not, if◌then◌else◌, List, [], ◌∷◌, Option, Some, None, map, length, refl, ap, sym, ◌∙◌, option_map, arith}
+use Rattle.std.proofs.Common.{IfOk, Result, ◌≡◌, ◌<◌, Bool, true, false, if◌then◌else◌, List, [], ◌∷◌, Option, Some, None, length, refl, sym, ◌∙◌, arith}
 use Rattle.pascal_tree.specs.declared.expr.Access.{Access, out-Access}
 use Rattle.pascal_tree.specs.declared.expr.AccessPart.{AccessPart}
 use Rattle.pascal_tree.specs.declared.expr.Expr.{Expr}
@@ -17,12 +17,11 @@ use Rattle.check_rules.specs.declared.entity.Standard.{Standard}
 use Rattle.expression_rules.specs.declared.notes.Env.{Env}
 use Rattle.expression_rules.specs.declared.notes.Notes.{Notes}
 use Rattle.expression_rules.specs.declared.notes.Place.{Place}
-use Rattle.expression_rules.specs.Values.{Reached, Value, Members, notes_of, notes_with, set_judgement, members_from, members_with, no_notes}
-use Rattle.expression_rules.specs.ExpressionRules.{Member}
-use Rattle.expression_rules.specs.Accesses.{entity_at, first_place, is_nil, is_function, entity_value, access_value, access_by, by_place_notes, variable_notes, arguments_notes}
+use Rattle.expression_rules.specs.Values.{Reached, Value, Members, notes_of, notes_with, members_with}
+use Rattle.expression_rules.specs.Accesses.{entity_at, first_place, is_function, entity_value, access_value, access_by, by_place_notes, variable_notes, arguments_notes}
 use Rattle.expression_rules.specs.Expressions.{access_of, value_of, member_of}
 use Rattle.check_expr.specs.Reaching.{reached}
-use Rattle.check_expr.specs.Steps.{alone, may_be_variable, passed_notes, place_or_lost, members, with_member, set_of_members}
+use Rattle.check_expr.specs.Steps.{alone, may_be_variable, passed_notes, place_or_lost, members, with_member}
 use Rattle.check_expr.proofs.Ranks.{reached_is, reached_by, member_is}
 
 -- ---- an identifier alone
@@ -88,10 +87,6 @@ pub variable_is : (r : Result Notes NoMemory) (env : Env) (p : Parameter) (v : V
 variable_is r env p v a at variable put sole there is known = rw (passed_by env p v a sole) (rw (sym is ∙ known) (rw (sym there) put))
 
 -- ---- members
-
-pub set_is : (tys : Table) (ms : List Member) → set_judgement tys ms ≡ set_of_members (is_nil ms) (members_from tys (record { base = None; notes = no_notes }) ms)
-set_is tys [] = refl
-set_is tys (m ∷ ms) = refl
 
 pub member_alone : (env : Env) (m : SetMember) (x y : Members) (tys : Table) (v : Judged) → (out-SetMember m).last ≡ None → tys ≡ env.table → v ≡ (value_of env (out-SetMember m).first).judged
     → y ≡ members_with tys x v → y ≡ with_member env.table x (member_of env m)

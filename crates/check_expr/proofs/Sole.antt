@@ -1,5 +1,5 @@
 -- Which access an expression is, where it is one and nothing more.
-use Rattle.std.proofs.Common.{◌≡◌, List, [], ◌∷◌, Option, Some, None, Bool, map, length, ◌<◌, refl, ap, sym, ◌∙◌, option_map, arith}
+use Rattle.std.proofs.Common.{◌≡◌, List, [], ◌∷◌, Option, Some, None, map, length, ◌<◌, refl, ap, sym, ◌∙◌, option_map, arith}
 use Rattle.pascal_tree.specs.declared.expr.Prefix.{Prefix}
 use Rattle.pascal_tree.specs.declared.expr.Prefix.TheVariants.{Without, Plus, Minus}
 use Rattle.pascal_tree.specs.declared.expr.Expr.{Expr, out-Expr, map-Expr}

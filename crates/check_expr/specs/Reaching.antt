@@ -2,7 +2,7 @@
 use Rattle.std.specs.Prelude.{List, [], ◌∷◌, Option, Some, None}
 use Rattle.pascal_tree.specs.declared.expr.Prefix.{Prefix}
 use Rattle.pascal_tree.specs.declared.expr.Prefix.TheVariants.{Without}
-use Rattle.pascal_tree.specs.declared.expr.Expr.{Expr, out-Expr}
+use Rattle.pascal_tree.specs.declared.expr.Expr.{Expr}
 use Rattle.pascal_tree.specs.declared.expr.RelPart.{RelPart}
 use Rattle.pascal_tree.specs.declared.expr.SumExpr.{SumExpr, out-SumExpr}
 use Rattle.pascal_tree.specs.declared.expr.AddPart.{AddPart}

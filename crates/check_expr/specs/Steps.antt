@@ -1,5 +1,5 @@
 -- The rules of `expression_rules` in the steps in which the code takes them.
-use Rattle.std.specs.Prelude.{ℕ, min, Bool, true, false, ◌&&◌, ◌||◌, not, if◌then◌else◌, List, [], ◌∷◌, ◌++◌, Option, Some, None}
+use Rattle.std.specs.Prelude.{ℕ, min, Bool, true, false, ◌&&◌, ◌||◌, not, if◌then◌else◌, List, [], ◌∷◌, Option, Some, None}
 use Rattle.check_rules.specs.declared.kinds.TheConstants.{CLEAN, WRONG_TYPE, WRONG_ARGUMENTS}
 use Rattle.check_rules.specs.declared.typing.Typing.{Typing}
 use Rattle.check_rules.specs.declared.typing.Typing.TheVariants.{EmptySet}

@@ -88,8 +88,8 @@ fn is_same_or_unknown(a: Typing, b: Typing) -> bool
     }
 }
 
-/// The variable that an identifier stands for, where it stands alone: what a statement that assigns it, reads into it or
-/// passes it by its place changes.
+/// The variable that an identifier stands for, where it stands alone: what a statement changes that assigns it, reads
+/// into it or passes it by its place (ISO 7185:1990, 6.5.1).
 pub fn change_of(
     alloc: Global,
     entity: Option<&Entity>,
@@ -112,7 +112,7 @@ pub fn change_of(
     }
 }
 
-/// The same of an access.
+/// The same of an access with what it begins at.
 pub fn change_at(alloc: Global, env: &Env, access: &Access) -> Result<Items<(u32, Text)>, NoMemory>
     ensures { IfOk result (λ c. c ≡ accesses.change_of (accesses.entity_at env.now (out-Access access.now).ident) (out-Access access.now).ident (accesses.is_nil (out-Access access.now).parts)) }
 {

@@ -1,5 +1,5 @@
-//! Expressions and accesses, judged (ISO 7185:1990, 6.5 and 6.7). Chains of operators, of parts and of arguments are loops:
-//! they may be thousands long, while the tree is at most as deep as a program.
+//! Expressions and accesses, judged (ISO 7185:1990, 6.5 and 6.7). Chains of operators, of parts and of arguments are
+//! loops: they may be thousands long, while the tree is at most as deep as a program.
 ghost use Rattle.std.specs.Prelude.{◌≡◌, map, drop, IfOk, Some};
 ghost use Rattle.expression_rules.specs.Accesses as accesses;
 ghost use Rattle.expression_rules.specs.ExpressionRules as rules;
@@ -146,7 +146,8 @@ pub fn width_notes(alloc: Global, env: &Env, arg: &Arg) -> Result<Notes, NoMemor
     }
 }
 
-/// What is noted of an argument's width in a call that takes none (ISO 7185:1990, 6.9.3: only `write` and `writeln` do).
+/// What is noted of an argument's width in a call that takes none: only `write` and `writeln` do (ISO 7185:1990,
+/// 6.9.3).
 #[cycle(judgement_of)]
 #[tactic(auto, using(crate::proofs::Ranks::argument_is))]
 pub fn refused_width(alloc: Global, env: &Env, arg: &Arg) -> Result<Notes, NoMemory>
@@ -262,7 +263,8 @@ fn argument_notes_for(
     }
 }
 
-// An argument for the first of the parameters that are left, or, if none are left, the first that is too many or a later.
+// An argument for the first of the parameters that are left or, if none are left, the first that is too many, or a
+// later one.
 #[cycle(judgement_of)]
 fn notes_for(
     alloc: Global,
