@@ -1,4 +1,5 @@
 pub mod Arguments
+mod Examples
 pub mod Keeping
 pub mod Opened
 pub mod Targets

@@ -11,6 +11,7 @@ use crate::assign::{assign_form, target_node, value_form};
 use crate::calls::{Transfer, dispose_form, lost_form, new_form, routine_form, transfer_form};
 use crate::control::{case_labels, for_form, hold_effects};
 use crate::form::{KeptForm, form_with};
+use check_expr::is_file;
 use check_rules::{Entity, Standard, StandardFile};
 use core_tree::StatementOp;
 use dice_base::NoMemory;
@@ -24,7 +25,7 @@ use std::alloc::Global;
 fn names_file(env: &Env, file: StandardFile, arg: &Arg) -> bool
     ensures { result ≡ folds.names_file file (judgements.argument_of env.now arg.now) }
 {
-    false
+    arg.width.is_none() && is_file(env, file, arg)
 }
 
 fn behind_file<'a>(env: &Env, file: StandardFile, args: &'a [Arg]) -> &'a [Arg]
