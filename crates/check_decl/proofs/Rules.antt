@@ -1,10 +1,11 @@
 -- What a block declares, and the names of its routines, do not depend on what comes of bodies.
-use Rattle.std.proofs.Common.{◌≡◌, Bool, ◌&&◌, if◌then◌else◌, List, [], ◌∷◌, ◌++◌, map, Option, Some, None, is_some, bytes_eq, ap, sym, ◌∙◌, refl}
+use Rattle.std.proofs.Common.{◌≡◌, Bool, ◌&&◌, if◌then◌else◌, List, [], ◌∷◌, ◌++◌, map, Option, Some, None, is_some, true, false, bytes_eq, ap, sym, ◌∙◌, refl}
 use Rattle.pascal_tree.specs.declared.decl.Block.{Block, out-Block, map-Block}
 use Rattle.pascal_tree.specs.declared.decl.Routine.{Routine, Routine-F, out-Routine, map-Routine}
 use Rattle.pascal_tree.specs.declared.decl.Block.TheFolds.{fold_out-Block, fold_out-Routine}
 use Rattle.pascal_tree.specs.declared.decl.Heading.{Heading}
 use Rattle.dice_base.specs.declared.name.Name.{Name}
+use Rattle.check_rules.specs.declared.kinds.TheConstants.{CLEAN}
 use Rattle.check_decl.specs.BlockRules.{BlockJudge, RoutineJudge, is_block_for, is_same_class, block_for, naming_of, forward_naming, routine_idents, decl_idents}
 use Rattle.check_decl.specs.Blocks.{BodyRule, bodyless, in_block, in_routine, decl_judge, block_judge, routine_judge}
 
@@ -51,7 +52,7 @@ block_for_same rule h (r ∷ rs) =
 
 pub naming_same : (rule : BodyRule) (n : Name) (h : Heading) (b : Bool) (rs : List Routine) → naming_of n h b (map (routine_judge rule) rs) ≡ naming_of n h b (map (routine_judge bodyless) rs)
 naming_same rule n h b rs =
-    ap (λ o. if b then record { name = n; forward = false; kind = 12 } else forward_naming n o) (block_for_same rule h rs)
+    ap (λ o. if b then record { name = n; forward = false; kind = CLEAN } else forward_naming n o) (block_for_same rule h rs)
 
 -- ---- identifiers
 
