@@ -21,17 +21,17 @@ block_is rule b = fold_out-Block BlockJudge RoutineJudge (in_block rule) (in_rou
 
 -- ---- routines
 
-heading_is : (rule : BodyRule) (r : Routine) → (routine_judge rule r).heading ≡ (out-Routine r).heading
+pub heading_is : (rule : BodyRule) (r : Routine) → (routine_judge rule r).heading ≡ (out-Routine r).heading
 heading_is rule r = ap (λ (j : RoutineJudge). j.heading) (routine_is rule r)
 
-name_is : (rule : BodyRule) (r : Routine) → (routine_judge rule r).name ≡ (out-Routine r).name
+pub name_is : (rule : BodyRule) (r : Routine) → (routine_judge rule r).name ≡ (out-Routine r).name
 name_is rule r = ap (λ (j : RoutineJudge). j.name) (routine_is rule r)
 
 layer_has_block : (rule : BodyRule) (n : Name) (h : Heading) (o : Option Block) → is_some (map-Routine Block Routine BlockJudge RoutineJudge (block_judge rule) (routine_judge rule) (record { name = n; heading = h; block = o })).block ≡ is_some o
 layer_has_block rule n h None = refl
 layer_has_block rule n h (Some b) = refl
 
-has_block : (rule : BodyRule) (r : Routine) → is_some (routine_judge rule r).block ≡ is_some (out-Routine r).block
+pub has_block : (rule : BodyRule) (r : Routine) → is_some (routine_judge rule r).block ≡ is_some (out-Routine r).block
 has_block rule r = ap (λ (j : RoutineJudge). is_some j.block) (routine_is rule r) ∙ layer_has_block rule (out-Routine r).name (out-Routine r).heading (out-Routine r).block
 
 head_test : Heading → Bool → Heading → Bool

@@ -285,23 +285,24 @@ place_inside x f idents known =
 abbrev pub with_place : Known → Owner → Region → Known
 with_place k owner r = record k { places = k.places ++ record { owner = owner; region = r } ∷ [] }
 
-abbrev pub place_left : Owner → At → Region → List Row → ℕ → At
-place_left owner after r rows words = record {
+-- the place that was left, with what is known now
+abbrev pub place_after : Owner → At → Region → List Row → ℕ → Outcome
+place_after owner after r rows words = Ok (record {
   known = with_place after.known owner after.block;
   block = r;
   rows = rows;
   words = words;
-}
+})
 
-abbrev pub place_after : Owner → At → At → Outcome
-place_after owner here after = Ok (place_left owner after here.block here.rows here.words)
+abbrev pub back_in : Owner → At → At → Outcome
+back_in owner here after = place_after owner after here.block here.rows here.words
 
 abbrev pub block_outcome : Owner → Regions → Text → RoutineEntity → Option BlockJudge → At → Outcome
 block_outcome owner outer x f None here = Ok here
 block_outcome owner outer x f (Some b) here =
     then_on
     (b.walk (owner_of f owner) (regions_at outer here) (place_inside x f b.idents here.known))
-    (place_after (owner_of f owner) here)
+    (back_in (owner_of f owner) here)
 
 -- the name under which a heading declares its routine, whether it is forward, and the kind of that
 abbrev pub forward_naming : Name → Option Name → Naming

@@ -85,10 +85,12 @@ fn leave(
     block: Region,
     rows: Items<Row>,
     words: u32,
-) -> Result<At, NoMemory>
-    ensures { IfOk result (λ at. at ≡ spec.place_left owner after block rows words) }
+) -> Result<At, CheckEnd>
+    ensures { Answers result (spec.place_after owner after block rows words) }
 {
-    let known = with_place(after.known, owner, after.block)?;
+    let Ok(known) = with_place(after.known, owner, after.block) else {
+        return Err(CheckEnd::NoMemory);
+    };
     Ok(At {
         known,
         block,
@@ -98,7 +100,7 @@ fn leave(
 }
 
 #[cycle(blocks)]
-#[tactic(auto, using(std::proofs::lemmas::List::append_cancel_right, crate::proofs::Rules::idents_same), unfolding(crate::specs::Blocks::block_judge, crate::specs::Blocks::routine_judge))]
+#[tactic(auto, using(std::proofs::lemmas::List::append_cancel_right), unfolding(crate::specs::Blocks::block_judge, crate::specs::Blocks::routine_judge))]
 fn routine_item<B: JudgesBodies>(
     alloc: Global,
     bodies: &B,
@@ -137,20 +139,20 @@ fn routine_item<B: JudgesBodies>(
             let Ok(()) = outer.push(region) else {
                 return Err(CheckEnd::NoMemory);
             };
-            let after = block_walk(alloc, bodies, block, &own, outer, begin)?;
-            let Some(region) = outer.pop() else {
-                return Err(CheckEnd::NoMemory);
-            };
-            let Ok(here) = leave(own, after, region, rows, words) else {
-                return Err(CheckEnd::NoMemory);
-            };
-            Ok(here)
+            match block_walk(alloc, bodies, block, &own, outer, begin) {
+                Err(end) => Err(end),
+                Ok(after) => {
+                    let Some(region) = outer.pop() else {
+                        return Err(CheckEnd::NoMemory);
+                    };
+                    leave(own, after, region, rows, words)
+                }
+            }
         }
     }
 }
 
 #[cycle(blocks)]
-#[tactic(auto, using(crate::proofs::Rules::naming_same), unfolding(crate::specs::Blocks::routine_judge))]
 fn routine_items<B: JudgesBodies>(
     alloc: Global,
     bodies: &B,
@@ -167,7 +169,10 @@ fn routine_items<B: JudgesBodies>(
         let block = routine.block.is_some();
         let later = &routines[index + 1..];
         let naming = naming_of(routine.name, &routine.heading, block, later);
-        so_far = routine_item(alloc, bodies, routine, naming, owner, outer, so_far)?;
+        match routine_item(alloc, bodies, routine, naming, owner, outer, so_far) {
+            Err(end) => return Err(end),
+            Ok(after) => so_far = after,
+        }
     }
     Ok(so_far)
 }
@@ -187,6 +192,8 @@ pub fn block_walk<B: JudgesBodies>(
     ensures kept { OnOk result (outer.new ≡ outer.old) }
 {
     let here = declarations(alloc, block, owner, outer.as_slice(), here)?;
-    let here = routine_items(alloc, bodies, block.routines.as_slice(), owner, outer, here)?;
-    bodies.judge(alloc, block.labels.as_ref(), &block.body, owner, outer, here)
+    match routine_items(alloc, bodies, block.routines.as_slice(), owner, outer, here) {
+        Err(end) => Err(end),
+        Ok(here) => bodies.judge(alloc, block.labels.as_ref(), &block.body, owner, outer, here),
+    }
 }
