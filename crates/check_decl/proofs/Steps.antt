@@ -1,5 +1,5 @@
 -- The steps of the walk through blocks: what the calls of a block and of a routine answer makes the answer of the whole.
-use Rattle.std.proofs.Common.{◌≡◌, ℕ, ◌+◌, ◌<◌, length, drop, get_or, List, [], ◌∷◌, ◌++◌, map, true, Option, Some, None, is_some, Result, Ok, Err, ap, sym, ◌∙◌, subst, refl}
+use Rattle.std.proofs.Common.{◌≡◌, ℕ, Bool, ◌+◌, ◌<◌, length, drop, get_or, List, [], ◌∷◌, ◌++◌, map, true, Option, Some, None, is_some, Result, Ok, Err, ap, sym, ◌∙◌, subst, refl}
 use Rattle.pascal_tree.specs.declared.stmt.Stmt.{Stmt}
 use Rattle.pascal_tree.specs.declared.decl.Block.{Block, out-Block}
 use Rattle.pascal_tree.specs.declared.decl.Routine.{Routine, Routine-F, out-Routine, map-Routine}
@@ -12,11 +12,13 @@ use Rattle.check_rules.specs.Regions.{Regions}
 use Rattle.body_labels.specs.Labels.{Numbers, placed_labels}
 use Rattle.check_decl.specs.declared.place.At.{At}
 use Rattle.check_decl.specs.declared.place.Owner.{Owner}
+use Rattle.check_decl.specs.declared.place.Row.{Row}
+use Rattle.check_rules.specs.declared.entity.Region.{Region}
 use Rattle.check_decl.specs.Answers.{Answers}
 use Rattle.check_decl.specs.declared.heads.Headed.{Headed}
 use Rattle.check_decl.specs.declared.routines.Naming.{Naming}
-use Rattle.check_decl.specs.BlockRules.{Outcome, then_on, declarations, routine_items, routine_item, routine_head, after_head, owner_of, place_inside, back_in, naming_of, BlockJudge, RoutineJudge}
-use Rattle.check_decl.specs.Blocks.{BodyRule, bodyless, labels_in, in_routine, decl_judge, block_judge, routine_judge}
+use Rattle.check_decl.specs.BlockRules.{Outcome, then_on, declarations, routine_items, routine_item, routine_head, after_head, owner_of, place_inside, back_in, place_after, naming_of, BlockJudge, RoutineJudge}
+use Rattle.check_decl.specs.Blocks.{BodyRule, bodyless, rest_walk, labels_in, in_routine, decl_judge, block_judge, routine_judge}
 use Rattle.check_decl.proofs.Rules.{block_is, routine_is, heading_is, name_is, has_block, idents_same, naming_same}
 
 -- ---- a block
@@ -27,31 +29,12 @@ declared_in b owner outer here =
     (map decl_judge (out-Block b).consts) (map decl_judge (out-Block b).types) (map decl_judge (out-Block b).vars)
     owner outer here
 
-abbrev pub routines_in : BodyRule → Block → Owner → Regions → At → Outcome
-routines_in rule b owner outer here = routine_items owner outer (map (routine_judge rule) (out-Block b).routines) here
-
-pub walk_is : (rule : BodyRule) (b : Block) (owner : Owner) (outer : Regions) (here : At)
-    → (block_judge rule b).walk owner outer here
-    ≡ then_on (declared_in b owner outer here) (λ h.
-    then_on (routines_in rule b owner outer h) (rule (labels_in (out-Block b).labels) (out-Block b).body owner outer))
-walk_is rule b owner outer here = ap (λ (j : BlockJudge). j.walk owner outer here) (block_is rule b)
-
 pub after_declarations : (rule : BodyRule) (b : Block) (owner : Owner) (outer : Regions) (here h1 : At)
     → declared_in b owner outer here ≡ Ok h1
-    → (block_judge rule b).walk owner outer here
-    ≡ then_on (routines_in rule b owner outer h1) (rule (labels_in (out-Block b).labels) (out-Block b).body owner outer)
+    → (block_judge rule b).walk owner outer here ≡ rest_walk rule (out-Block b) owner outer h1
 after_declarations rule b owner outer here h1 e =
-    walk_is rule b owner outer here
-    ∙ ap (λ (o : Outcome). then_on o (λ h.
-    then_on (routines_in rule b owner outer h) (rule (labels_in (out-Block b).labels) (out-Block b).body owner outer))) e
-
-pub after_routines : (rule : BodyRule) (b : Block) (owner : Owner) (outer : Regions) (here h1 h2 : At)
-    → declared_in b owner outer here ≡ Ok h1
-    → routines_in rule b owner outer h1 ≡ Ok h2
-    → (block_judge rule b).walk owner outer here ≡ rule (labels_in (out-Block b).labels) (out-Block b).body owner outer h2
-after_routines rule b owner outer here h1 h2 e e2 =
-    after_declarations rule b owner outer here h1 e
-    ∙ ap (λ (o : Outcome). then_on o (rule (labels_in (out-Block b).labels) (out-Block b).body owner outer)) e2
+    ap (λ (j : BlockJudge). j.walk owner outer here) (block_is rule b)
+    ∙ ap (λ (o : Outcome). then_on o (rest_walk rule (out-Block b) owner outer)) e
 
 -- ---- answers
 
@@ -122,3 +105,38 @@ pub turn_is : (rule : BodyRule) (r : Routine) (rs : List Routine) (owner : Owner
     (routine_items owner outer (map (routine_judge rule) rs))
 turn_is rule r rs owner outer here =
     ap (λ n. then_on (routine_item (routine_judge rule r) n owner outer here) (routine_items owner outer (map (routine_judge rule) rs))) (naming_is rule r rs)
+
+pub inside_is : (rule : BodyRule) (r : Routine) (b : Block) (owner : Owner) (outer : Regions) (h : Headed) (own : Owner) (begin : At) (region : Region) (pushed : Regions)
+    → own ≡ owner_of h.routine owner
+    → begin ≡ place_inside (out-Routine r).heading.ident h.routine (block_judge bodyless b).idents h.here.known
+    → region ≡ h.here.block
+    → pushed ≡ outer ++ region ∷ []
+    → inside_of rule r b owner outer h ≡ (block_judge rule b).walk own pushed begin
+inside_is rule r b owner outer h own begin region pushed o i g p =
+    sym (ap (λ x. (block_judge rule b).walk x pushed begin) o
+    ∙ (ap (λ x. (block_judge rule b).walk (owner_of h.routine owner) pushed x) i
+    ∙ ap (λ x. (block_judge rule b).walk (owner_of h.routine owner) x (place_inside (out-Routine r).heading.ident h.routine (block_judge bodyless b).idents h.here.known))
+    (p ∙ ap (λ x. outer ++ x ∷ []) g)))
+
+pub left_is : (rule : BodyRule) (r : Routine) (b : Block) (owner : Owner) (outer : Regions) (h : Headed) (own : Owner) (after : At) (region : Region) (rows : List Row) (words : ℕ)
+    → own ≡ owner_of h.routine owner
+    → inside_of rule r b owner outer h ≡ Ok after
+    → region ≡ h.here.block
+    → rows ≡ h.here.rows
+    → words ≡ h.here.words
+    → then_on (inside_of rule r b owner outer h) (back_in (owner_of h.routine owner) h.here) ≡ place_after own after region rows words
+left_is rule r b owner outer h own after region rows words o e g rs ws =
+    ap (λ (x : Outcome). then_on x (back_in (owner_of h.routine owner) h.here)) e
+    ∙ sym (ap (λ x. place_after x after region rows words) o
+    ∙ (ap (λ x. place_after (owner_of h.routine owner) after x rows words) g
+    ∙ (ap (λ x. place_after (owner_of h.routine owner) after h.here.block x words) rs
+    ∙ ap (λ x. place_after (owner_of h.routine owner) after h.here.block h.here.rows x) ws)))
+
+pub head_is : (r : Routine) (n : Naming) (level : ℕ) (outer seen : Regions) (here : At) (h : Headed) (some : Bool)
+    → some ≡ is_some (out-Routine r).block
+    → seen ≡ outer
+    → routine_head (out-Routine r).name (out-Routine r).heading some n level seen here ≡ Ok h
+    → routine_head (out-Routine r).name (out-Routine r).heading (is_some (out-Routine r).block) n level outer here ≡ Ok h
+head_is r n level outer seen here h some s o e =
+    subst (λ x. routine_head (out-Routine r).name (out-Routine r).heading x n level outer here ≡ Ok h) s
+    (subst (λ x. routine_head (out-Routine r).name (out-Routine r).heading some n level x here ≡ Ok h) o e)

@@ -1,5 +1,6 @@
 //! Blocks and their routines, in the order of the text (ISO 7185:1990, 6.2.1 and 6.6). What comes of a body is a parameter.
 ghost use Rattle.std.specs.Prelude.{◌≡◌, map, IfOk, OnOk};
+ghost use Rattle.pascal_tree.specs.declared.decl.Block.{out-Block};
 ghost use Rattle.check_decl.specs.Answers.{Answers};
 ghost use Rattle.check_decl.specs.BlockRules as spec;
 ghost use Rattle.check_decl.specs.Blocks as folds;
@@ -177,9 +178,27 @@ fn routine_items<B: JudgesBodies>(
     Ok(so_far)
 }
 
+// Behind the declarations of a block: its routines and its body.
+#[cycle(blocks)]
+fn rest_walk<B: JudgesBodies>(
+    alloc: Global,
+    bodies: &B,
+    block: &Block,
+    owner: &Owner,
+    outer: &mut Items<Region>,
+    here: At,
+) -> Result<At, CheckEnd>
+    ensures value { Answers result (folds.rest_walk (B.rule bodies.now) (out-Block block.now) owner.now outer.old here) }
+    ensures kept { OnOk result (outer.new ≡ outer.old) }
+{
+    match routine_items(alloc, bodies, block.routines.as_slice(), owner, outer, here) {
+        Err(end) => Err(end),
+        Ok(here) => bodies.judge(alloc, block.labels.as_ref(), &block.body, owner, outer, here),
+    }
+}
+
 /// A block: the place at its end, or the first fault in it. The regions outside are lent, and given back as they were.
 #[cycle(blocks)]
-#[tactic(auto, unfolding(crate::specs::Blocks::block_judge, crate::specs::Blocks::routine_judge))]
 pub fn block_walk<B: JudgesBodies>(
     alloc: Global,
     bodies: &B,
@@ -191,9 +210,8 @@ pub fn block_walk<B: JudgesBodies>(
     ensures value { Answers result ((folds.block_judge (B.rule bodies.now) block.now).walk owner.now outer.old here) }
     ensures kept { OnOk result (outer.new ≡ outer.old) }
 {
-    let here = declarations(alloc, block, owner, outer.as_slice(), here)?;
-    match routine_items(alloc, bodies, block.routines.as_slice(), owner, outer, here) {
+    match declarations(alloc, block, owner, outer.as_slice(), here) {
         Err(end) => Err(end),
-        Ok(here) => bodies.judge(alloc, block.labels.as_ref(), &block.body, owner, outer, here),
+        Ok(here) => rest_walk(alloc, bodies, block, owner, outer, here),
     }
 }
