@@ -1,5 +1,7 @@
 -- The steps of the walk through blocks: what the calls of a block and of a routine answer makes the answer of the whole.
-use Rattle.std.proofs.Common.{◌≡◌, ℕ, Bool, ◌+◌, ◌<◌, length, drop, get_or, List, [], ◌∷◌, ◌++◌, map, true, Option, Some, None, is_some, Result, Ok, Err, ap, sym, ◌∙◌, subst, refl}
+use Rattle.std.proofs.lemmas.List.{drop_more}
+use Rattle.std.proofs.Math.Seq.{take-length}
+use Rattle.std.proofs.Common.{◌≡◌, ℕ, Bool, ◌+◌, ◌-◌, ◌<◌, length, length-drop, take, drop, get_or, List, [], ◌∷◌, ◌++◌, map, true, Option, Some, None, is_some, Result, Ok, Err, ap, sym, ◌∙◌, subst, refl}
 use Rattle.pascal_tree.specs.declared.stmt.Stmt.{Stmt}
 use Rattle.pascal_tree.specs.declared.decl.Block.{Block, out-Block}
 use Rattle.pascal_tree.specs.declared.decl.Routine.{Routine, Routine-F, out-Routine, map-Routine}
@@ -140,3 +142,41 @@ pub head_is : (r : Routine) (n : Naming) (level : ℕ) (outer seen : Regions) (h
 head_is r n level outer seen here h some s o e =
     subst (λ x. routine_head (out-Routine r).name (out-Routine r).heading x n level outer here ≡ Ok h) s
     (subst (λ x. routine_head (out-Routine r).name (out-Routine r).heading some n level x here ≡ Ok h) o e)
+
+pub walk_is : (rule : BodyRule) (b : Block) (owner : Owner) (outer : Regions) (here : At)
+    → (block_judge rule b).walk owner outer here ≡ then_on (declared_in b owner outer here) (rest_walk rule (out-Block b) owner outer)
+walk_is rule b owner outer here = ap (λ (j : BlockJudge). j.walk owner outer here) (block_is rule b)
+
+-- ---- the region that is taken back is the one that was lent
+
+abbrev last_of : Region → Regions → Region
+last_of d [] = d
+last_of d (x ∷ xs) = last_of x xs
+
+last_append : (d : Region) (xs : Regions) (a : Region) → last_of d (xs ++ a ∷ []) ≡ a
+last_append d [] a = refl
+last_append d (x ∷ xs) a = last_append x xs a
+
+pub last_is : (xs ys : Regions) (a b : Region) → xs ++ a ∷ [] ≡ ys ++ b ∷ [] → a ≡ b
+last_is xs ys a b e = sym (last_append a xs a) ∙ (ap (λ zs. last_of a zs) e ∙ last_append a ys b)
+
+-- ---- a turn of the loop over routines
+
+take_rest : (rs : List Routine) (j : ℕ) → take (length rs - j) (drop j rs) ≡ drop j rs
+take_rest rs j = ap (λ n. take n (drop j rs)) (sym (length-drop j rs)) ∙ take-length (drop j rs)
+
+pub turn_at : (rule : BodyRule) (rs : List Routine) (i : ℕ) (r : Routine) (some : Bool) (n : Naming) (owner : Owner) (outer : Regions) (here : At)
+    → i < length rs
+    → r ≡ get_or rs i r
+    → some ≡ is_some (out-Routine r).block
+    → n ≡ naming_of (out-Routine r).name (out-Routine r).heading some (map (routine_judge bodyless) (take (length rs - (i + 1)) (drop (i + 1) rs)))
+    → routine_items owner outer (map (routine_judge rule) (drop i rs)) here
+    ≡ then_on (routine_item (routine_judge rule r) n owner outer here) (routine_items owner outer (map (routine_judge rule) (drop (i + 1) rs)))
+turn_at rule rs i r some n owner outer here lt is s e =
+    let first : drop i rs ≡ r ∷ drop (i + 1) rs = drop_more rs i r lt ∙ ap (λ x. x ∷ drop (i + 1) rs) (sym is) in
+    let named : n ≡ naming_at r (drop (i + 1) rs) =
+        e ∙ (ap (λ x. naming_of (out-Routine r).name (out-Routine r).heading x (map (routine_judge bodyless) (take (length rs - (i + 1)) (drop (i + 1) rs)))) s
+        ∙ ap (λ xs. naming_of (out-Routine r).name (out-Routine r).heading (is_some (out-Routine r).block) (map (routine_judge bodyless) xs)) (take_rest rs (i + 1))) in
+    ap (λ xs. routine_items owner outer (map (routine_judge rule) xs) here) first
+    ∙ (turn_is rule r (drop (i + 1) rs) owner outer here
+    ∙ ap (λ m. then_on (routine_item (routine_judge rule r) m owner outer here) (routine_items owner outer (map (routine_judge rule) (drop (i + 1) rs)))) (sym named))
