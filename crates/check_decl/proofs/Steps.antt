@@ -175,8 +175,8 @@ pub turn_at : (rule : BodyRule) (rs : List Routine) (i : ℕ) (r : Routine) (som
 turn_at rule rs i r some n owner outer here lt is s e =
     let first : drop i rs ≡ r ∷ drop (i + 1) rs = drop_more rs i r lt ∙ ap (λ x. x ∷ drop (i + 1) rs) (sym is) in
     let named : n ≡ naming_at r (drop (i + 1) rs) =
-        e ∙ (ap (λ x. naming_of (out-Routine r).name (out-Routine r).heading x (map (routine_judge bodyless) (take (length rs - (i + 1)) (drop (i + 1) rs)))) s
-        ∙ ap (λ xs. naming_of (out-Routine r).name (out-Routine r).heading (is_some (out-Routine r).block) (map (routine_judge bodyless) xs)) (take_rest rs (i + 1))) in
+    e ∙ (ap (λ x. naming_of (out-Routine r).name (out-Routine r).heading x (map (routine_judge bodyless) (take (length rs - (i + 1)) (drop (i + 1) rs)))) s
+    ∙ ap (λ xs. naming_of (out-Routine r).name (out-Routine r).heading (is_some (out-Routine r).block) (map (routine_judge bodyless) xs)) (take_rest rs (i + 1))) in
     ap (λ xs. routine_items owner outer (map (routine_judge rule) xs) here) first
     ∙ (turn_is rule r (drop (i + 1) rs) owner outer here
     ∙ ap (λ m. then_on (routine_item (routine_judge rule r) m owner outer here) (routine_items owner outer (map (routine_judge rule) (drop (i + 1) rs)))) (sym named))

@@ -193,7 +193,14 @@ fn rest_walk<B: JudgesBodies>(
 {
     match routine_items(alloc, bodies, block.routines.as_slice(), owner, outer, here) {
         Err(end) => Err(end),
-        Ok(here) => bodies.judge(alloc, block.labels.as_ref(), &block.body, owner, outer, here),
+        Ok(here) => bodies.judge(
+            alloc,
+            block.labels.as_ref(),
+            &block.body,
+            owner,
+            outer,
+            here,
+        ),
     }
 }
 

@@ -60,7 +60,10 @@ fn new_kind(heading: &Heading, judged: &JudgedHeading, kind: u8) -> u8
 fn bare_kind(heading: &Heading, judged: &JudgedHeading) -> u8
     ensures { result ≡ spec.bare_kind heading.now judged.now }
 {
-    least(judged.kind, kind_unless(is_bare_heading(heading), WRONG_FORWARD))
+    least(
+        judged.kind,
+        kind_unless(is_bare_heading(heading), WRONG_FORWARD),
+    )
 }
 
 fn routine_named(

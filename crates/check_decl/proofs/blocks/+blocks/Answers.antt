@@ -81,10 +81,10 @@ routine_items-loop-index-preserved g t c =
     let k : c.loop-index.outer ≡ c.args.outer.now = c.loop-index.invariant.kept in
     let k2 : c.routine_item.new.outer ≡ c.loop-index.outer = c.in-Ok.ensures.kept in
     let w : routine_item (routine_judge rule r) n c.args.owner.now c.args.outer.now at ≡ Ok c.in-Ok.after =
-        subst (λ o. routine_item (routine_judge rule r) n c.args.owner.now o at ≡ Ok c.in-Ok.after) k c.in-Ok.ensures.value in
+    subst (λ o. routine_item (routine_judge rule r) n c.args.owner.now o at ≡ Ok c.in-Ok.after) k c.in-Ok.ensures.value in
     record {
       kept = k2 ∙ k;
       same = c.loop-index.invariant.same
-      ∙ (turn_at rule c.args.routines.now c.loop-index.index r c.is_some-block.result n c.args.owner.now c.args.outer.now at c.loop-index-test.true c.index-routines-index.is c.is_some-block.ensures c.naming_of-naming.ensures
-      ∙ ap (λ o. then_on o (routine_items c.args.owner.now c.args.outer.now (map (routine_judge rule) (drop (c.loop-index.index + 1) c.args.routines.now)))) w);
+          ∙ (turn_at rule c.args.routines.now c.loop-index.index r c.is_some-block.result n c.args.owner.now c.args.outer.now at c.loop-index-test.true c.index-routines-index.is c.is_some-block.ensures c.naming_of-naming.ensures
+          ∙ ap (λ o. then_on o (routine_items c.args.owner.now c.args.outer.now (map (routine_judge rule) (drop (c.loop-index.index + 1) c.args.routines.now)))) w);
     }
