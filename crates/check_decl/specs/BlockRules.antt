@@ -24,7 +24,10 @@ use Rattle.check_types.specs.declared.headings.JudgedHeading.{JudgedHeading}
 use Rattle.check_decl.specs.declared.place.At.{At}
 use Rattle.check_decl.specs.declared.place.Known.{Known}
 use Rattle.check_decl.specs.declared.place.Owner.{Owner}
+use Rattle.check_decl.specs.declared.place.Row.{Row}
+use Rattle.check_decl.specs.declared.place.Layout.{Layout}
 use Rattle.check_decl.specs.declared.routines.Naming.{Naming}
+use Rattle.check_decl.specs.declared.heads.Headed.{Headed}
 use Rattle.body_labels.specs.Labels.{Numbers, label_part_kind}
 use Rattle.check_types.specs.Headings.{heading_of, lacks_result, is_bare_heading}
 
@@ -201,8 +204,11 @@ type_constants [] = []
 type_constants (d ∷ ds) = d.constants ++ type_constants ds
 
 -- while the type part is read, pointers see the types that it declares (6.4.4)
+abbrev pub region_with_types : Region → List (Text × Name) → Texts → Region
+region_with_types r ns cs = record r { types = ns; constants = cs }
+
 abbrev pub with_type_part : List (Text × Name) → Texts → At → At
-with_type_part ns cs here = record here { block = record (here.block) { types = ns; constants = cs } }
+with_type_part ns cs here = record here { block = region_with_types here.block ns cs }
 
 abbrev pub type_part_end : At → Outcome
 type_part_end here = Ok (with_type_part [] [] here)
@@ -275,63 +281,88 @@ place_inside x f idents known =
     (with_parameters f.name f.parameters
     (with_result_row x f (new_block known (parameter_idents f.parameters ++ idents)), CLEAN)).0
 
-abbrev pub place_after : At → At → Outcome
-place_after here after = Ok (record here { known = after.known })
+-- a block ends: from here on its owner and all that it declared are known
+abbrev pub with_place : Known → Owner → Region → Known
+with_place k owner r = record k { places = k.places ++ record { owner = owner; region = r } ∷ [] }
+
+-- the place that was left, with what is known now
+abbrev pub place_after : Owner → At → Region → List Row → ℕ → Outcome
+place_after owner after r rows words = Ok (record {
+  known = with_place after.known owner after.block;
+  block = r;
+  rows = rows;
+  words = words;
+})
+
+abbrev pub back_in : Owner → At → At → Outcome
+back_in owner here after = place_after owner after here.block here.rows here.words
 
 abbrev pub block_outcome : Owner → Regions → Text → RoutineEntity → Option BlockJudge → At → Outcome
 block_outcome owner outer x f None here = Ok here
 block_outcome owner outer x f (Some b) here =
     then_on
     (b.walk (owner_of f owner) (regions_at outer here) (place_inside x f b.idents here.known))
-    (place_after here)
+    (back_in (owner_of f owner) here)
 
 -- the name under which a heading declares its routine, whether it is forward, and the kind of that
 abbrev pub forward_naming : Name → Option Name → Naming
 forward_naming own None = record { name = own; forward = true; kind = WRONG_FORWARD }
 forward_naming own (Some n) = record { name = n; forward = true; kind = CLEAN }
 
-abbrev pub naming_of : RoutineJudge → List RoutineJudge → Naming
-naming_of r later =
-    if is_some r.block
-    then record { name = r.name; forward = false; kind = CLEAN }
-    else forward_naming r.name (block_for r.heading later)
+abbrev pub naming_of : Name → Heading → Bool → List RoutineJudge → Naming
+naming_of name h block later =
+    if block
+    then record { name = name; forward = false; kind = CLEAN }
+    else forward_naming name (block_for h later)
+
+-- the place after a heading, with the routine whose heading it is
+abbrev pub HeadOutcome : Type 0
+HeadOutcome = Result Headed CheckFault
+
+abbrev pub headed : RoutineEntity → Outcome → HeadOutcome
+headed f (Ok here) = Ok (record { here = here; routine = f })
+headed f (Err e) = Err e
 
 abbrev pub new_kind : Heading → JudgedHeading → ℕ → ℕ
 new_kind h j kind = min j.kind (min kind (kind_unless (not (lacks_result h)) WRONG_TYPE))
 
-abbrev pub routine_declared : RoutineJudge → RoutineEntity → Owner → Regions → At → ℕ → Region × ℕ → Outcome
-routine_declared r f owner outer here kind (own, k) =
-    then_on (item r.name (min kind k) (record here { block = own }))
-    (block_outcome owner outer r.heading.ident f r.block)
+abbrev pub routine_declared : Name → RoutineEntity → At → ℕ → Region × ℕ → HeadOutcome
+routine_declared name f here kind (own, k) =
+    headed f (item name (min kind k) (record here { block = own }))
 
-abbrev pub routine_named : RoutineJudge → RoutineEntity → Owner → Regions → At → ℕ → Outcome
-routine_named r f owner outer here kind =
-    routine_declared r f owner outer here kind (declare here.block r.heading.ident (RoutineOf f))
+abbrev pub routine_named : Name → Text → RoutineEntity → At → ℕ → HeadOutcome
+routine_named name x f here kind = routine_declared name f here kind (declare here.block x (RoutineOf f))
 
-abbrev pub new_routine : RoutineJudge → Owner → Regions → At → JudgedHeading → Naming → Outcome
-new_routine r owner outer here j n =
-    routine_named r (routine_entity n.name r.heading owner.level j n.forward) owner outer here
-    (new_kind r.heading j n.kind)
+abbrev pub new_routine : Name → Heading → ℕ → JudgedHeading → Naming → At → HeadOutcome
+new_routine name h level j n here =
+    routine_named name h.ident (routine_entity n.name h level j n.forward) here (new_kind h j n.kind)
 
 abbrev pub bare_kind : Heading → JudgedHeading → ℕ
 bare_kind h j = min j.kind (kind_unless (is_bare_heading h) WRONG_FORWARD)
 
-abbrev pub routine_item_of : RoutineJudge → Naming → Owner → Regions → At → JudgedHeading → Option RoutineEntity → Outcome
-routine_item_of r n owner outer here j None = new_routine r owner outer here j n
-routine_item_of r n owner outer here j (Some f) =
-    then_on (item r.name (bare_kind r.heading j) here)
-    (block_outcome owner outer r.heading.ident f r.block)
+abbrev pub head_of : Name → Heading → ℕ → JudgedHeading → Naming → At → Option RoutineEntity → HeadOutcome
+head_of name h level j n here None = new_routine name h level j n here
+head_of name h level j n here (Some f) = headed f (item name (bare_kind h j) here)
+
+abbrev pub routine_head : Name → Heading → Bool → Naming → ℕ → Regions → At → HeadOutcome
+routine_head name h block n level outer here =
+    head_of name h level (heading_of here.known.table (regions_at outer here) h) n here
+    (forward_in name block (entity_in here.block.declared h.ident))
+
+abbrev pub after_head : RoutineJudge → Owner → Regions → HeadOutcome → Outcome
+after_head r owner outer (Ok h) = block_outcome owner outer r.heading.ident h.routine r.block h.here
+after_head r owner outer (Err e) = Err e
 
 abbrev pub routine_item : RoutineJudge → Naming → Owner → Regions → At → Outcome
 routine_item r n owner outer here =
-    routine_item_of r n owner outer here
-    (heading_of here.known.table (regions_at outer here) r.heading)
-    (forward_in r.name (is_some r.block) (entity_in here.block.declared r.heading.ident))
+    after_head r owner outer
+    (routine_head r.name r.heading (is_some r.block) n owner.level outer here)
 
 abbrev pub routine_items : Owner → Regions → List RoutineJudge → At → Outcome
 routine_items owner outer [] here = Ok here
 routine_items owner outer (r ∷ rs) here =
-    then_on (routine_item r (naming_of r rs) owner outer here) (routine_items owner outer rs)
+    then_on (routine_item r (naming_of r.name r.heading (is_some r.block) rs) owner outer here)
+    (routine_items owner outer rs)
 
 abbrev pub routine_idents : List RoutineJudge → Texts
 routine_idents [] = []
@@ -339,16 +370,15 @@ routine_idents (r ∷ rs) = r.heading.ident ∷ routine_idents rs
 
 -- ---- a block
 
-abbrev pub known_with_layout : Owner → At → Known
-known_with_layout owner here = record (here.known) {
-  layouts =
-      here.known.layouts
-      ++ record { owner = owner.name; level = owner.level; rows = here.rows; words = here.words } ∷ [];
-}
+abbrev pub known_with : Known → Layout → Known
+known_with k l = record k { layouts = k.layouts ++ l ∷ [] }
+
+abbrev pub layout_of : Owner → At → Layout
+layout_of owner here = record { owner = owner.name; level = owner.level; rows = here.rows; words = here.words }
 
 -- the rows go into the layout
 abbrev pub with_layout : Owner → At → At
-with_layout owner here = record here { known = known_with_layout owner here; rows = [] }
+with_layout owner here = record here { known = known_with here.known (layout_of owner here); rows = [] }
 
 -- the parts of a block; the last is what comes of its body, where the layout of its owner stands
 pub record BlockParts : Type 0 where
@@ -364,14 +394,21 @@ abbrev pub block_idents : BlockParts → Texts
 block_idents b =
     decl_idents b.consts ++ (decl_idents b.types ++ (decl_idents b.vars ++ routine_idents b.routines))
 
+abbrev pub layout_end : Owner → At → Outcome
+layout_end owner here = Ok (with_layout owner here)
+
+-- the place after the declarations of labels, constants, types and variables, where the layout of the owner stands
+abbrev pub declarations : Option (Name × Numbers) → Numbers → List DeclJudge → List DeclJudge → List DeclJudge → Owner → Regions → At → Outcome
+declarations labels placed consts types vars owner outer here =
+    then_on (label_part labels placed here) (λ h.
+    then_on (decl_items owner outer consts h) (λ h.
+    then_on (type_part owner outer types h) (λ h.
+    then_on (decl_items owner outer vars h) (layout_end owner))))
+
 abbrev pub block_walk : BlockParts → Owner → Regions → At → Outcome
 block_walk b owner outer here =
-    then_on (label_part b.labels b.placed here) (λ h.
-    then_on (decl_items owner outer b.consts h) (λ h.
-    then_on (type_part owner outer b.types h) (λ h.
-    then_on (decl_items owner outer b.vars h) (λ h.
-    then_on (routine_items owner outer b.routines (with_layout owner h)) (λ h.
-    b.body owner outer h)))))
+    then_on (declarations b.labels b.placed b.consts b.types b.vars owner outer here) (λ h.
+    then_on (routine_items owner outer b.routines h) (b.body owner outer))
 
 abbrev pub block_of_parts : BlockParts → BlockJudge
 block_of_parts b = record { idents = block_idents b; walk = (λ owner outer here. block_walk b owner outer here) }
@@ -396,7 +433,7 @@ abbrev pub program_owner : Owner
 program_owner = record { name = program_name; level = 0; functions = [] }
 
 abbrev pub nothing_known : Known
-nothing_known = record { table = []; domains = []; changed = []; layouts = [] }
+nothing_known = record { table = []; domains = []; changed = []; layouts = []; places = [] }
 
 abbrev pub program_walk : Texts → BlockJudge → Outcome
 program_walk files b =

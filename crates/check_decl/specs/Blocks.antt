@@ -15,7 +15,7 @@ use Rattle.check_decl.specs.declared.place.At.{At}
 use Rattle.check_decl.specs.declared.place.Owner.{Owner}
 use Rattle.check_decl.specs.declared.place.Known.{Known}
 use Rattle.body_labels.specs.Labels.{Numbers, placed_labels}
-use Rattle.check_decl.specs.BlockRules.{Outcome, DeclJudge, constant_decl, type_decl, variable_decl, label_decl, BlockJudge, RoutineJudge, BlockParts, block_of_parts, no_body, program_walk}
+use Rattle.check_decl.specs.BlockRules.{Outcome, DeclJudge, constant_decl, type_decl, variable_decl, label_decl, BlockJudge, RoutineJudge, BlockParts, block_of_parts, no_body, program_walk, then_on, routine_items}
 
 abbrev pub kind_judge : Name → DeclKind → DeclJudge
 kind_judge name (LabelDecl ns) = label_decl
@@ -58,6 +58,12 @@ module _ (body : BodyRule) where
 
   unfoldable pub routine_judge : Routine → RoutineJudge
   routine_judge = fold-Routine BlockJudge RoutineJudge in_block in_routine
+
+-- behind the declarations of a block
+abbrev pub rest_walk : BodyRule → Block-F Block Routine → Owner → Regions → At → Outcome
+rest_walk rule b owner outer here =
+    then_on (routine_items owner outer (map (routine_judge rule) b.routines) here)
+    (rule (labels_in b.labels) b.body owner outer)
 
 -- the declarations of a program, where bodies are left out
 abbrev pub bodyless : BodyRule

@@ -3,12 +3,8 @@ use Rattle.std.specs.Prelude.{ℕ, ◌+◌, min, nat_le, if◌then◌else◌, Li
 use Rattle.check_rules.specs.declared.kinds.TheConstants.{MAX_COUNTED}
 use Rattle.dice_base.specs.declared.name.Name.{Name}
 use Rattle.check_decl.specs.declared.place.Layout.{Layout}
-
-pub data LayoutFault : Type 0 where
-  -- the words
-  GlobalsFull : ℕ → LayoutFault
-  -- the routine, and its stack charge
-  FrameTooLarge : Name → ℕ → LayoutFault
+use Rattle.check_decl.specs.declared.layouts.LayoutFault.{LayoutFault}
+use Rattle.check_decl.specs.declared.layouts.LayoutFault.TheVariants.{GlobalsFull, FrameTooLarge}
 
 -- five words of linkage, eight holds and 32 temporaries beside the layout
 abbrev pub stack_charge : Layout → ℕ

@@ -90,6 +90,7 @@ fn typed_at(alloc: Global, text: &TypeText, outer: &[Region], here: At) -> Resul
         domains,
         changed,
         layouts,
+        places,
     } = known;
     let mut state = TypeState { table, block };
     let mut around = Items::new(alloc);
@@ -100,6 +101,7 @@ fn typed_at(alloc: Global, text: &TypeText, outer: &[Region], here: At) -> Resul
         domains,
         changed,
         layouts,
+        places,
     };
     let here = At {
         known,
@@ -122,6 +124,7 @@ fn with_domain(known: Known, name: Name, typing: Typing) -> Result<Known, NoMemo
         mut domains,
         changed,
         layouts,
+        places,
     } = known;
     domains.push((name, typing))?;
     Ok(Known {
@@ -129,6 +132,7 @@ fn with_domain(known: Known, name: Name, typing: Typing) -> Result<Known, NoMemo
         domains,
         changed,
         layouts,
+        places,
     })
 }
 

@@ -5,16 +5,28 @@
 //! through a whole program are one definition.
 #![tactic(auto)]
 
+mod blocks;
+mod bodies;
+mod heads;
 mod idents;
 mod items;
 mod labels;
+mod layouts;
+mod parts;
 mod place;
+mod programs;
 mod routines;
 
+pub use blocks::block_walk;
+pub use bodies::{JudgesBodies, WithoutBodies};
+pub use heads::{Headed, naming_of, routine_head};
 pub use idents::{block_idents, type_constants, type_names};
 pub use items::{Judging, decl_items, item};
 pub use labels::label_part;
-pub use place::{At, Known, Layout, Owner, Row};
+pub use layouts::{LayoutFault, layout_fault, stack_charge};
+pub use parts::declarations;
+pub use place::{At, BodyPlace, Known, Layout, Owner, Row};
+pub use programs::{Scopes, resolve_declarations, walk_program};
 pub use routines::{
     Naming, block_for, copy_routine, forward_in, new_block, owner_of, place_inside,
 };

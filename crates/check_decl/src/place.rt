@@ -22,22 +22,31 @@ pub struct Layout {
     pub words: u32,
 }
 
-/// What later items see of all before them: the table of types, the types of pointer domains, the variables that
-/// routines change, each by its owner and its identifier, and layouts in the order of the text.
-#[derive(Drop)]
-pub struct Known {
-    pub table: Items<WrittenType>,
-    pub domains: Items<(Name, Typing)>,
-    pub changed: Items<(u32, Text)>,
-    pub layouts: Items<Layout>,
-}
-
 /// Whose block it is, its level, and the functions that may be assigned in it.
 #[derive(Drop)]
 pub struct Owner {
     pub name: Name,
     pub level: u32,
     pub functions: Items<Name>,
+}
+
+/// The block of a routine that was judged whole: its owner, and all that it declares.
+#[derive(Drop)]
+pub struct BodyPlace {
+    pub owner: Owner,
+    pub region: Region,
+}
+
+/// What later items see of all before them: the table of types, the types of pointer domains, the variables that
+/// routines change, each by its owner and its identifier, layouts in the order of the text, and the blocks of routines
+/// in the order of their ends.
+#[derive(Drop)]
+pub struct Known {
+    pub table: Items<WrittenType>,
+    pub domains: Items<(Name, Typing)>,
+    pub changed: Items<(u32, Text)>,
+    pub layouts: Items<Layout>,
+    pub places: Items<BodyPlace>,
 }
 
 /// A place in a block: what is known, the block's region, and the rows and words of its owner so far.
