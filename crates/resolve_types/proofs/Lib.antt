@@ -1,0 +1,4 @@
+mod Examples
+pub mod Places
+pub mod Taken
+pub mod Unfolded

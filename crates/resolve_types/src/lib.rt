@@ -1,0 +1,15 @@
+//! What a resolved program has besides its blocks (ISO 7185:1990, 6.4, 6.5 and 6.6): its types as shapes, and its
+//! headings, variables and own forms of routines, from what the check of its declarations leaves.
+//!
+//! A type of the check and its shape have the same place in their tables.
+#![tactic(auto)]
+
+mod headings;
+mod laws;
+mod routines;
+mod shapes;
+
+pub use headings::{core_heading, core_variables};
+pub use laws::variables_behind;
+pub use routines::core_form;
+pub use shapes::{declared_shape, domain_shapes, shape_table};
