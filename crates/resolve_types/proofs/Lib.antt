@@ -1,4 +1,5 @@
 mod Examples
+mod ProgramExamples
 pub mod Places
 pub mod Taken
 pub mod Unfolded

@@ -6,10 +6,12 @@
 
 mod headings;
 mod laws;
+mod programs;
 mod routines;
 mod shapes;
 
 pub use headings::{core_heading, core_variables};
 pub use laws::variables_behind;
+pub use programs::{core_routine, owner_words, program_entity, region_of};
 pub use routines::core_form;
 pub use shapes::{declared_shape, domain_shapes, shape_table};
