@@ -1,3 +1,4 @@
+pub mod Assembled
 mod Examples
 mod ProgramExamples
 pub mod Places

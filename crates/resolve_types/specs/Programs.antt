@@ -1,6 +1,6 @@
 -- The plain program that a tree is, where the walk through it ended so: the head of each routine with a block, the routines
 -- in it, and its body in what stands around it. A forward heading has no block, and leaves nothing.
-use Rattle.std.specs.Prelude.{◌≡◌, ℕ, min, ◌==◌, false, List, [], ◌∷◌, map, find, Option, Some, None}
+use Rattle.std.specs.Prelude.{◌≡◌, ℕ, min, ◌==◌, false, List, [], ◌∷◌, map, find, Option, Some, None, option_map}
 use Rattle.dice_base.specs.declared.name.Name.{Name}
 use Rattle.pascal_tree.specs.declared.stmt.Stmt.{Stmt as Tree}
 use Rattle.pascal_tree.specs.declared.decl.Block.{Block as BlockTree, Block-F, fold-Block}
@@ -22,12 +22,14 @@ use Rattle.check_decl.specs.BlockRules.{owner_of, program_name, program_owner}
 use Rattle.resolve_expr.specs.declared.context.Context.{Context}
 use Rattle.resolve_expr.specs.declared.context.OwnerWords.{OwnerWords}
 use Rattle.core_tree.specs.declared.program.Core.{Core}
+use Rattle.core_tree.specs.declared.program.CoreBlock.{CoreBlock}
 use Rattle.core_tree.specs.declared.program.CoreLabel.{CoreLabel}
 use Rattle.core_tree.specs.declared.program.CoreRoutine.{CoreRoutine}
-use Rattle.core_tree.specs.Control.{RoutineRow, core_routines, routine_row_of}
+use Rattle.core_tree.specs.declared.shape.ShapeEntry.{ShapeEntry}
+use Rattle.core_tree.specs.Control.{CoreRow, RoutineRow, core_routines, core_rows, routine_row_of}
 use Rattle.core_tree.specs.Plain.{Head, Heading, Routine, Block, Routines, NoRoutine, Also, Statement}
-use Rattle.core_tree.specs.Shapes.{ShapeTree}
-use Rattle.core_tree.specs.Views.{IsTableOf, head_over}
+use Rattle.core_tree.specs.Shapes.{ShapeTree, trees_of}
+use Rattle.core_tree.specs.Views.{IsTableOf, form_over, head_over, listed_routines}
 use Rattle.resolve_types.specs.Resolved.{core_heading, core_variables, domain_shape, type_trees, written_shapes}
 
 -- ---- what is known of an owner at the end
@@ -185,3 +187,25 @@ module _ (bodies : BodyRules) where
     pub shapes : map (λ e. e.shape) core.shapes.entries ≡ written_shapes end.known.table
     pub domains : core.domains ≡ map domain_shape end.known.domains
     pub table : IsTableOf (resolved_program end p) core.shapes.entries core.routines core.blocks
+
+-- ---- what a core is built to: its blocks and its routines are those of the program, whatever the headings are
+
+-- a block, with these headings of routines
+abbrev pub row_over : List ShapeTree → (ℕ → Heading) → CoreBlock → CoreRow
+row_over trees headings b = record {
+  name = b.name.0;
+  routine = b.routine.0;
+  around = option_map (λ n. n.0) b.around;
+  next = b.next;
+  entries = map (λ n. n.0) b.entries;
+  form = form_over trees headings b.form;
+}
+
+pub record AreBuilt
+    (bodies : BodyRules) (p : ProgramTree) (end : At) (entries : List ShapeEntry) (routines : List CoreRoutine)
+    (blocks : List CoreBlock) : Type 0 where
+  pub trees : trees_of entries ≡ type_trees end.known.table
+  pub listed : (headings : ℕ → Heading)
+      → listed_routines entries routines ≡ core_routines (program_over bodies end headings p)
+  pub rows : (headings : ℕ → Heading)
+      → map (row_over (trees_of entries) headings) blocks ≡ core_rows (program_over bodies end headings p)

@@ -11,7 +11,7 @@ mod routines;
 mod shapes;
 
 pub use headings::{core_heading, core_variables};
-pub use laws::variables_behind;
+pub use laws::{built_table, variables_behind};
 pub use programs::{core_routine, owner_words, program_entity, region_of};
 pub use routines::core_form;
 pub use shapes::{declared_shape, domain_shapes, shape_table};
