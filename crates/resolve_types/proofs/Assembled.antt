@@ -2,6 +2,11 @@
 use Rattle.std.proofs.Common.{◌≡◌, ℕ, ◌==◌, Bool, true, false, List, [], ◌∷◌, ◌++◌, cond, find, map, option_to_list, Option, Some, None, refl, sym, ap, ◌∙◌}
 use Rattle.pascal_tree.specs.declared.program.Tree.{Tree as ProgramTree}
 use Rattle.check_decl.specs.declared.place.At.{At}
+use Rattle.check_decl.specs.declared.place.Owner.{Owner}
+use Rattle.check_decl.specs.BlockRules.{owner_of, program_name}
+use Rattle.check_rules.specs.declared.entity.RoutineEntity.{RoutineEntity}
+use Rattle.check_rules.specs.Regions.{predeclared_region}
+use Rattle.std.proofs.lemmas.List.{map-append}
 use Rattle.core_tree.specs.declared.form.CoreForm.{CoreForm}
 use Rattle.core_tree.specs.declared.form.CoreForm.TheVariants as block
 use Rattle.core_tree.specs.declared.form.StatementForm.{StatementForm}
@@ -14,7 +19,7 @@ use Rattle.core_tree.specs.Plain.{Form, Heading, StatementBlock}
 use Rattle.core_tree.specs.Shapes.{ShapeTree, tree_of, trees_of}
 use Rattle.core_tree.specs.Views as views
 use Rattle.core_tree.specs.Views.{IsTableOf, block_row, block_rows, callees_in, form_over, joined_shapes, listed_routines, parts_in, routine_row, shapes_of}
-use Rattle.resolve_types.specs.Programs.{AreBuilt, BodyRules, heading_by, headings_in, headings_of, program_over, resolved_program, row_over}
+use Rattle.resolve_types.specs.Programs.{AreBuilt, BodyRules, context_of, entered, owner_words, owners_around, region_of, heading_by, headings_in, headings_of, program_over, resolved_program, row_over}
 
 -- ---- the headings of routines, by their rows
 
@@ -71,3 +76,12 @@ built_table bodies p end entries routines blocks built =
       blocks_are = rows_same trees here (headings_of bodies end p) same blocks ∙ built.rows (headings_of bodies end p);
       routines_are = built.listed (headings_of bodies end p);
     }
+
+-- ---- contexts
+
+pub context_inside : (end : At) (owner : Owner) (f : RoutineEntity) → context_of end (owner_of f owner) ≡ entered end f (context_of end owner)
+context_inside end owner f =
+    ap (λ rs. record (entered end f (context_of end owner)) { env = record ((entered end f (context_of end owner)).env) { regions = predeclared_region ∷ (region_of end program_name ∷ rs) }; owners = map (owner_words end) (owners_around (owner_of f owner)) })
+    (map-append (region_of end) owner.functions (f.name ∷ []))
+    ∙ ap (λ os. record (entered end f (context_of end owner)) { owners = owner_words end program_name ∷ os })
+    (map-append (owner_words end) owner.functions (f.name ∷ []))

@@ -1,6 +1,6 @@
 -- The plain program that a tree is, where the walk through it ended so: the head of each routine with a block, the routines
 -- in it, and its body in what stands around it. A forward heading has no block, and leaves nothing.
-use Rattle.std.specs.Prelude.{◌≡◌, ℕ, min, ◌==◌, false, List, [], ◌∷◌, map, find, Option, Some, None, option_map}
+use Rattle.std.specs.Prelude.{◌≡◌, ℕ, min, ◌==◌, false, List, [], ◌∷◌, ◌++◌, map, find, Option, Some, None, option_map}
 use Rattle.dice_base.specs.declared.name.Name.{Name}
 use Rattle.pascal_tree.specs.declared.stmt.Stmt.{Stmt as Tree}
 use Rattle.pascal_tree.specs.declared.decl.Block.{Block as BlockTree, Block-F, fold-Block}
@@ -19,6 +19,7 @@ use Rattle.check_decl.specs.declared.place.Layout.{Layout}
 use Rattle.check_decl.specs.declared.place.Owner.{Owner}
 use Rattle.check_decl.specs.declared.place.Row.{Row}
 use Rattle.check_decl.specs.BlockRules.{owner_of, program_name, program_owner}
+use Rattle.expression_rules.specs.declared.notes.Env.{Env}
 use Rattle.resolve_expr.specs.declared.context.Context.{Context}
 use Rattle.resolve_expr.specs.declared.context.OwnerWords.{OwnerWords}
 use Rattle.core_tree.specs.declared.program.Core.{Core}
@@ -82,6 +83,21 @@ context_of end owner = record {
   };
   level = owner.level;
   owners = map (owner_words end) (owners_around owner);
+}
+
+-- the same step by step: from the block that declares a routine into that routine's
+abbrev pub entered_env : At → Name → Env → Env
+entered_env end n env = record env {
+  regions = env.regions ++ region_of end n ∷ [];
+  owner = n;
+  functions = env.functions ++ n ∷ [];
+}
+
+abbrev pub entered : At → RoutineEntity → Context → Context
+entered end f c = record {
+  env = entered_env end f.name c.env;
+  level = f.level;
+  owners = c.owners ++ owner_words end f.name ∷ [];
 }
 
 -- ---- heads

@@ -4,14 +4,18 @@
 //! A type of the check and its shape have the same place in their tables.
 #![tactic(auto)]
 
+mod contexts;
+mod copies;
 mod headings;
 mod laws;
 mod programs;
 mod routines;
 mod shapes;
 
+pub use contexts::{entered, left};
+pub use copies::copy_region;
 pub use headings::{core_heading, core_variables};
-pub use laws::{built_table, variables_behind};
+pub use laws::{built_table, context_inside, variables_behind};
 pub use programs::{core_routine, owner_words, program_entity, region_of};
 pub use routines::core_form;
 pub use shapes::{declared_shape, domain_shapes, shape_table};

@@ -4,9 +4,10 @@ ghost use Rattle.core_tree.specs.Shapes.{trees_of};
 ghost use Rattle.resolve_expr.specs.Nodes as nodes;
 ghost use Rattle.resolve_types.specs.Resolved as spec;
 
+use crate::copies::copy_idents;
 use check_rules::{Domain, FieldType, Host, Structure, Typing, WrittenType};
 use core_tree::{Domain as ShapeDomain, DomainShape, FieldShape, Shape, ShapeTable, WrittenShape};
-use dice_base::{Name, NoMemory, Text};
+use dice_base::{Name, NoMemory};
 use resolve_expr::shape_of;
 use sqlite_items::Items;
 use std::alloc::Global;
@@ -39,16 +40,6 @@ fn shape_domain(domain: Domain) -> ShapeDomain
         Domain::Declared(name) => ShapeDomain::Declared(name),
         Domain::Predeclared(host) => ShapeDomain::Predeclared(host_shape(host)),
     }
-}
-
-fn copy_idents(alloc: Global, idents: &[Text]) -> Result<Items<Text>, NoMemory>
-    ensures { IfOk result (λ xs. xs ≡ idents.now) }
-{
-    let mut all = Items::new(alloc);
-    for ident in idents {
-        all.push(ident.copy(alloc)?)?;
-    }
-    Ok(all)
 }
 
 fn field_shapes(alloc: Global, fields: &[FieldType]) -> Result<Items<FieldShape>, NoMemory>
