@@ -1,5 +1,5 @@
 -- A core that is built to a program is its table: the headings of the program are those of its routines.
-use Rattle.std.proofs.Common.{◌≡◌, ℕ, ◌==◌, Bool, true, false, List, [], ◌∷◌, ◌++◌, cond, find, map, option_to_list, Option, Some, None, refl, sym, ap, ◌∙◌}
+use Rattle.std.proofs.Common.{◌≡◌, ℕ, ◌==◌, Bool, true, false, List, [], ◌∷◌, ◌++◌, cond, map, option_to_list, Option, Some, None, refl, sym, ap, ◌∙◌}
 use Rattle.pascal_tree.specs.declared.program.Tree.{Tree as ProgramTree}
 use Rattle.check_decl.specs.declared.place.At.{At}
 use Rattle.check_decl.specs.declared.place.Owner.{Owner}
@@ -13,13 +13,13 @@ use Rattle.core_tree.specs.declared.form.StatementForm.{StatementForm}
 use Rattle.core_tree.specs.declared.program.CoreBlock.{CoreBlock}
 use Rattle.core_tree.specs.declared.program.CoreRoutine.{CoreRoutine}
 use Rattle.core_tree.specs.declared.shape.ShapeEntry.{ShapeEntry}
-use Rattle.core_tree.specs.Control.{CoreRow, RoutineRow, core_routines, core_rows, routine_row_of}
+use Rattle.core_tree.specs.Control.{RoutineRow, routine_row_of}
 use Rattle.core_tree.specs.Lookups.{routine_of}
 use Rattle.core_tree.specs.Plain.{Form, Heading, StatementBlock}
 use Rattle.core_tree.specs.Shapes.{ShapeTree, tree_of, trees_of}
 use Rattle.core_tree.specs.Views as views
 use Rattle.core_tree.specs.Views.{IsTableOf, block_row, block_rows, callees_in, form_over, joined_shapes, listed_routines, parts_in, routine_row, shapes_of}
-use Rattle.resolve_types.specs.Programs.{AreBuilt, BodyRules, context_of, entered, owner_words, owners_around, region_of, heading_by, headings_in, headings_of, program_over, resolved_program, row_over}
+use Rattle.resolve_types.specs.Programs.{AreBuilt, BodyRules, context_of, entered, owner_words, owners_around, region_of, heading_by, headings_in, headings_of, resolved_program, row_over}
 
 -- ---- the headings of routines, by their rows
 

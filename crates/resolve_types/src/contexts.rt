@@ -1,18 +1,56 @@
 //! What stands around the bodies of a program, from one block to those of the routines in it and back.
 ghost use Rattle.std.specs.Prelude.{◌≡◌, IfOk};
+ghost use Rattle.check_decl.specs.BlockRules as rules;
 ghost use Rattle.check_decl.specs.declared.place.At.{At};
 ghost use Rattle.check_rules.specs.declared.entity.RoutineEntity.{RoutineEntity};
 ghost use Rattle.resolve_expr.specs.declared.context.Context.{Context};
 ghost use Rattle.resolve_types.specs.Programs as spec;
 
-use crate::copies::copy_region;
+use crate::copies::{copy_changed, copy_domains, copy_region, copy_table};
 use crate::programs::{owner_words, region_of};
 use check_decl::At;
 use check_rules::RoutineEntity;
 use dice_base::{Name, NoMemory};
 use expression_rules::Env;
+use predeclared::predeclared_region;
 use resolve_expr::Context;
+use sqlite_items::Items;
 use std::alloc::Global;
+
+/// What stands around the body of the program. Takes memory for a copy of what the program declares and of its types.
+pub fn program_context(alloc: Global, end: &At) -> Result<Context, NoMemory>
+    ensures { IfOk result (λ c. c ≡ spec.context_of end.now rules.program_owner) }
+{
+    let mut owners = Items::new(alloc);
+    owners.push(owner_words(end, Name(1)))?;
+    let env = program_env(alloc, end)?;
+    Ok(Context {
+        env,
+        level: 0,
+        owners,
+    })
+}
+
+fn program_env(alloc: Global, end: &At) -> Result<Env, NoMemory>
+    ensures { IfOk result (λ e. e ≡ (spec.context_of end.now rules.program_owner).env) }
+{
+    let mut regions = Items::new(alloc);
+    regions.push(predeclared_region(alloc)?)?;
+    regions.push(copy_region(alloc, region_of(end, Name(1)))?)?;
+    let table = copy_table(alloc, end.known.table.as_slice())?;
+    let domains = copy_domains(alloc, end.known.domains.as_slice())?;
+    let changed = copy_changed(alloc, end.known.changed.as_slice())?;
+    Ok(Env {
+        table,
+        domains,
+        regions,
+        opened: Items::new(alloc),
+        holds: 0,
+        owner: Name(1),
+        functions: Items::new(alloc),
+        changed,
+    })
+}
 
 /// What stands around the body of a routine, from what stands around that of the block that declares it. Takes memory for
 /// a copy of what the routine declares.

@@ -1,8 +1,8 @@
-//! Copies of regions.
+//! Copies of regions, and of the table of types.
 ghost use Rattle.std.specs.Prelude.{◌≡◌, IfOk};
 
 use check_decl::copy_routine;
-use check_rules::{Constant, Declared, Entity, Region};
+use check_rules::{Constant, Declared, Entity, FieldType, Region, Structure, Typing, WrittenType};
 use dice_base::{Name, NoMemory, Text};
 use sqlite_items::Items;
 use std::alloc::Global;
@@ -83,4 +83,80 @@ pub fn copy_region(alloc: Global, region: &Region) -> Result<Region, NoMemory>
         types,
         constants,
     })
+}
+
+fn copy_fields(alloc: Global, fields: &[FieldType]) -> Result<Items<FieldType>, NoMemory>
+    ensures { IfOk result (λ fs. fs ≡ fields.now) }
+{
+    let mut all = Items::new(alloc);
+    for field in fields {
+        let ident = field.ident.copy(alloc)?;
+        all.push(FieldType {
+            ident,
+            typing: field.typing,
+            offset: field.offset,
+        })?;
+    }
+    Ok(all)
+}
+
+fn copy_structure(alloc: Global, structure: &Structure) -> Result<Structure, NoMemory>
+    ensures { IfOk result (λ s. s ≡ structure.now) }
+{
+    match structure {
+        Structure::Enumeration(idents) => {
+            let idents = copy_idents(alloc, idents.as_slice())?;
+            Ok(Structure::Enumeration(idents))
+        }
+        Structure::Subrange(host, first, last) => Ok(Structure::Subrange(*host, *first, *last)),
+        Structure::SetOf(packed, base) => Ok(Structure::SetOf(*packed, *base)),
+        Structure::ArrayOf(packed, index, component) => {
+            Ok(Structure::ArrayOf(*packed, *index, *component))
+        }
+        Structure::RecordOf(packed, fields) => {
+            let fields = copy_fields(alloc, fields.as_slice())?;
+            Ok(Structure::RecordOf(*packed, fields))
+        }
+        Structure::Pointer(domain) => Ok(Structure::Pointer(*domain)),
+    }
+}
+
+/// A copy of the table of types.
+pub fn copy_table(alloc: Global, types: &[WrittenType]) -> Result<Items<WrittenType>, NoMemory>
+    ensures { IfOk result (λ ts. ts ≡ types.now) }
+{
+    let mut all = Items::new(alloc);
+    for written in types {
+        let structure = copy_structure(alloc, &written.structure)?;
+        all.push(WrittenType {
+            structure,
+            words: written.words,
+        })?;
+    }
+    Ok(all)
+}
+
+/// A copy of the types of pointer domains.
+pub fn copy_domains(
+    alloc: Global,
+    domains: &[(Name, Typing)],
+) -> Result<Items<(Name, Typing)>, NoMemory>
+    ensures { IfOk result (λ ds. ds ≡ domains.now) }
+{
+    let mut all = Items::new(alloc);
+    for (declared, typing) in domains {
+        all.push((*declared, *typing))?;
+    }
+    Ok(all)
+}
+
+/// A copy of variables by their owners and identifiers.
+pub fn copy_changed(alloc: Global, changed: &[(u32, Text)]) -> Result<Items<(u32, Text)>, NoMemory>
+    ensures { IfOk result (λ vs. vs ≡ changed.now) }
+{
+    let mut all = Items::new(alloc);
+    for (owner, ident) in changed {
+        all.push((*owner, ident.copy(alloc)?))?;
+    }
+    Ok(all)
 }

@@ -12,8 +12,8 @@ mod programs;
 mod routines;
 mod shapes;
 
-pub use contexts::{entered, left};
-pub use copies::copy_region;
+pub use contexts::{entered, left, program_context};
+pub use copies::{copy_changed, copy_domains, copy_region, copy_table};
 pub use headings::{core_heading, core_variables};
 pub use laws::{built_table, context_inside, variables_behind};
 pub use programs::{core_routine, owner_words, program_entity, region_of};
