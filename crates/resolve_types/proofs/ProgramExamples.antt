@@ -28,7 +28,8 @@ use Rattle.resolve_expr.specs.declared.context.Context.{Context}
 use Rattle.resolve_expr.specs.declared.context.OwnerWords.{OwnerWords}
 use Rattle.core_tree.specs.Plain.{Block, Formal, Head, Local, Routine, NoRoutine, Also}
 use Rattle.core_tree.specs.Shapes.{ShapeTree, Char, Integer}
-use Rattle.resolve_types.specs.Programs.{BlockView, BodyRule, RoutineView, in_block, program_entity}
+use Rattle.resolve_types.specs.Programs.{BlockView, BodyRule, RoutineView, entered, headings_in, in_block, program_entity}
+use Rattle.core_tree.specs.Control.{core_routines}
 
 abbrev name : ℕ → Name
 name n = record { 0 = n }
@@ -164,3 +165,19 @@ abbrev program_worked :
     NoRoutine))
     (rule d (around 1 0 [] [] []))
 program_worked rule a b c d = refl
+
+-- a call of `inner` is told by its heading, and one of a routine that is not there does not come
+abbrev heading_worked :
+    (rule : BodyRule) (a b c d : Stmt)
+    → headings_in (core_routines (main rule a b c d)) 5
+    ≡ record { parameters = record { ident = codes "a"; by_place = true; shape = Integer } ∷ []; result = Some Char }
+heading_worked rule a b c d = refl
+
+abbrev no_heading_worked :
+    (rule : BodyRule) (a b c d : Stmt)
+    → headings_in (core_routines (main rule a b c d)) 7 ≡ record { parameters = []; result = None }
+no_heading_worked rule a b c d = refl
+
+-- from the block of `outer` into that of `inner`
+abbrev entered_worked : entered end inner (around 3 1 (name 3 ∷ []) (outer_region ∷ []) (outer_words ∷ [])) ≡ in_inner
+entered_worked = refl
