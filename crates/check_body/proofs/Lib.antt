@@ -1,0 +1,4 @@
+pub mod Chains
+pub mod Layers
+pub mod Opened
+pub mod Targets

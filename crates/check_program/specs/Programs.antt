@@ -12,7 +12,7 @@ use Rattle.body_labels.specs.Labels.{Numbers}
 use Rattle.check_decl.specs.BlockRules.{Outcome, program_walk}
 use Rattle.check_decl.specs.Blocks.{block_judge}
 use Rattle.check_body.specs.Statements.{judge_of}
-use Rattle.check_body.specs.BodyRules.{body_outcome, layouts_in}
+use Rattle.check_program.specs.BodyRules.{body_outcome, layouts_in}
 
 abbrev pub labels_of_part : Option (Name × Numbers) → Numbers
 labels_of_part None = []

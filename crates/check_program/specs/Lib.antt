@@ -1,0 +1,2 @@
+pub mod BodyRules
+pub mod Programs
