@@ -1,5 +1,5 @@
 //! Conditions, and assignments (ISO 7185:1990, 6.8.2.2): to a variable, or in a function's block to its identifier.
-ghost use Rattle.std.specs.Prelude.{◌≡◌, IfOk};
+ghost use Rattle.std.specs.Prelude.{◌≡◌, nat_eq, IfOk};
 ghost use Rattle.pascal_tree.specs.declared.expr.Access.{out-Access};
 ghost use Rattle.expression_rules.specs.Accesses as accesses;
 ghost use Rattle.expression_rules.specs.Expressions as exprs;
@@ -27,11 +27,17 @@ pub fn condition_kind(alloc: Global, env: &Env, expr: &Expr) -> Result<u8, NoMem
     Ok(least(value.notes.kind, kind_unless(fits, WRONG_TYPE)))
 }
 
+fn is_same_name(name: Name, other: Name) -> bool
+    ensures { result ≡ nat_eq name.0 other.0 }
+{
+    name.0 == other.0
+}
+
 fn is_open(functions: &[Name], function: Name) -> bool
     ensures { result ≡ spec.is_open functions.now function }
 {
     for other in functions {
-        if other.0 == function.0 {
+        if is_same_name(*other, function) {
             return true;
         }
     }

@@ -43,11 +43,17 @@ fn constant_in(alloc: Global, env: &Env, constant: &Constant) -> Result<JudgedCo
     }
 }
 
+fn is_same_number(number: i32, other: i32) -> bool
+    ensures { result ≡ spec.same_number number other }
+{
+    number <= other && other <= number
+}
+
 fn has_integer(numbers: &[i32], number: i32) -> bool
     ensures { result ≡ spec.has_integer numbers.now number }
 {
     for other in numbers {
-        if *other <= number && number <= *other {
+        if is_same_number(*other, number) {
             return true;
         }
     }

@@ -150,26 +150,6 @@ fn push_in_for(
 }
 
 #[cycle(push_changes)]
-#[tactic(auto, using(crate::proofs::Opened::closed_with))]
-fn push_in_with(
-    alloc: Global,
-    env: &mut Env,
-    records: &[Access],
-    body: &Stmt,
-    out: &mut Items<(u32, Text)>,
-) -> Result<(), NoMemory>
-    ensures value { (labels : Numbers) → OnOk result (out.new ≡ out.old ++ (spec.with_kind (map folds.access_judge records.now) (folds.judge_of labels body.now)).changes env.old) }
-    ensures kept { OnOk result (env.new ≡ env.old) }
-{
-    let count = env.opened.len();
-    let holds = env.holds;
-    push_opened(alloc, env, records, out)?;
-    push_changes(alloc, env, body, out)?;
-    close_records(env, count, holds);
-    Ok(())
-}
-
-#[cycle(push_changes)]
 #[tactic(auto, unfolding(crate::specs::Statements::judge_of, crate::specs::Statements::kind_judge_of, crate::specs::Statements::arm_judge_of))]
 fn push_kind(
     alloc: Global,
@@ -212,7 +192,12 @@ fn push_kind(
             push_in_for(alloc, env, body.get(), out)
         }
         StmtKind::With(records, body) => {
-            push_in_with(alloc, env, records.as_slice(), body.get(), out)
+            let count = env.opened.len();
+            let holds = env.holds;
+            push_opened(alloc, env, records.as_slice(), out)?;
+            push_changes(alloc, env, body.get(), out)?;
+            close_records(env, count, holds);
+            Ok(())
         }
     }
 }

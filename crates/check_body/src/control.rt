@@ -21,11 +21,17 @@ use pascal_tree::Expr;
 use sqlite_items::Items;
 use std::alloc::Global;
 
+fn is_same_variable(variable: &(u32, Text), owner: u32, ident: &[u8]) -> bool
+    ensures { result ≡ spec.same_variable variable.now (owner, ident.now) }
+{
+    variable.0 == owner && variable.1.bytes() == ident
+}
+
 fn has_variable(variables: &[(u32, Text)], owner: u32, ident: &[u8]) -> bool
     ensures { result ≡ spec.has_variable variables.now (owner, ident.now) }
 {
-    for (other, text) in variables {
-        if *other == owner && text.bytes() == ident {
+    for variable in variables {
+        if is_same_variable(variable, owner, ident) {
             return true;
         }
     }

@@ -1,5 +1,6 @@
 //! The kinds of all statements of a body, in the order of the text, and its first fault.
 ghost use Rattle.std.specs.Prelude.{◌≡◌, ◌++◌, map, OnOk};
+ghost use Rattle.check_rules.specs.Faults.{fault_at};
 ghost use Rattle.check_body.specs.StatementRules as spec;
 ghost use Rattle.check_body.specs.Statements as folds;
 
@@ -10,7 +11,7 @@ use crate::reach::{label_kind, reach_in, reach_within};
 use check_rules::{CLEAN, CheckFault, least};
 use dice_base::{Name, NoMemory};
 use expression_rules::Env;
-use pascal_tree::{Access, Arm, Stmt, StmtKind};
+use pascal_tree::{Arm, Stmt, StmtKind};
 use sqlite_items::Items;
 use std::alloc::Global;
 
@@ -109,28 +110,6 @@ fn push_in_for(
 }
 
 #[cycle(push_kinds)]
-#[tactic(auto, using(crate::proofs::Opened::closed_with))]
-fn push_in_with(
-    alloc: Global,
-    labels: &[u16],
-    env: &mut Env,
-    records: &[Access],
-    body: &Stmt,
-    reach: &[u16],
-    out: &mut Items<StatementKind>,
-) -> Result<(), NoMemory>
-    ensures value { OnOk result (out.new ≡ out.old ++ (folds.judge_of labels.now body.now).kinds (spec.env_with_all env.old (map folds.access_judge records.now)) reach.now) }
-    ensures kept { OnOk result (env.new ≡ env.old) }
-{
-    let count = env.opened.len();
-    let holds = env.holds;
-    with_notes(alloc, env, records)?;
-    push_kinds(alloc, labels, env, body, reach, out)?;
-    close_records(env, count, holds);
-    Ok(())
-}
-
-#[cycle(push_kinds)]
 #[tactic(auto, unfolding(crate::specs::Statements::judge_of, crate::specs::Statements::kind_judge_of, crate::specs::Statements::arm_judge_of))]
 fn push_inner(
     alloc: Global,
@@ -164,15 +143,14 @@ fn push_inner(
         StmtKind::For(_, _, _, _, body) => {
             push_in_for(alloc, labels, env, body.get(), reach, out)
         }
-        StmtKind::With(records, body) => push_in_with(
-            alloc,
-            labels,
-            env,
-            records.as_slice(),
-            body.get(),
-            reach,
-            out,
-        ),
+        StmtKind::With(records, body) => {
+            let count = env.opened.len();
+            let holds = env.holds;
+            with_notes(alloc, env, records.as_slice())?;
+            push_kinds(alloc, labels, env, body.get(), reach, out)?;
+            close_records(env, count, holds);
+            Ok(())
+        }
     }
 }
 
@@ -200,16 +178,26 @@ pub fn push_kinds(
     push_inner(alloc, labels, env, &stmt.kind, inside.as_slice(), out)
 }
 
+fn fault_at(statement: StatementKind) -> Option<CheckFault>
+    ensures { result ≡ fault_at statement.name statement.kind }
+{
+    if statement.kind < CLEAN {
+        Some(CheckFault {
+            kind: statement.kind,
+            name: statement.name,
+        })
+    } else {
+        None
+    }
+}
+
 /// The first fault of these statements.
 pub fn first_fault(kinds: &[StatementKind]) -> Option<CheckFault>
     ensures { result ≡ spec.first_fault kinds.now }
 {
     for statement in kinds {
-        if statement.kind < CLEAN {
-            return Some(CheckFault {
-                kind: statement.kind,
-                name: statement.name,
-            });
+        if let Some(fault) = fault_at(*statement) {
+            return Some(fault);
         }
     }
     None
