@@ -1,10 +1,14 @@
 -- Targets of assignments, by cases.
-use Rattle.std.proofs.Common.{◌≡◌, Bool, true, false, ◌&&◌, Option, Some, None, refl}
+use Rattle.std.proofs.Common.{◌≡◌, Bool, true, false, ◌&&◌, Option, Some, None, refl, ap, ◌∙◌}
 use Rattle.check_rules.specs.declared.entity.Entity.{Entity}
 use Rattle.check_rules.specs.declared.entity.Entity.TheVariants.{ConstantOf, TypeOf, VariableOf, FileOf, FieldOf, RoutineOf, StandardOf}
 use Rattle.check_rules.specs.declared.entity.RoutineEntity.{RoutineEntity}
 use Rattle.expression_rules.specs.declared.notes.Env.{Env}
 use Rattle.expression_rules.specs.Values.{Reached}
+use Rattle.pascal_tree.specs.declared.expr.Access.{Access, out-Access}
+use Rattle.expression_rules.specs.Accesses.{entity_at, is_nil}
+use Rattle.expression_rules.specs.Expressions.{access_of}
+use Rattle.check_expr.proofs.Ranks.{reached_is}
 use Rattle.check_body.specs.StatementRules as rules
 use Rattle.check_body.specs.Steps.{result_typing, target_or_place, target_of}
 
@@ -33,3 +37,7 @@ target_by env r (Some (StandardOf f)) false = refl
 
 pub target_is : (env : Env) (r : Reached) → target_of env r ≡ target_or_place (result_typing env r.entity r.whole) r
 target_is env r = target_by env r r.entity r.whole
+
+-- the target of an access by what it begins at
+pub target_at : (env : Env) (a : Access) → target_of env (access_of env a) ≡ target_or_place (result_typing env (entity_at env (out-Access a).ident) (is_nil (out-Access a).parts)) (access_of env a)
+target_at env a = target_is env (access_of env a) ∙ ap (λ r. target_or_place (result_typing env r.entity r.whole) (access_of env a)) (reached_is env a)

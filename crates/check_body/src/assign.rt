@@ -82,7 +82,7 @@ pub fn place_target(alloc: Global, env: &Env, access: &Access) -> Result<(Typing
     Ok((place.typing, Notes { kind, passed }))
 }
 
-#[tactic(auto, using(crate::proofs::Targets::target_is))]
+#[tactic(auto, using(crate::proofs::Targets::target_at))]
 fn target_of(alloc: Global, env: &Env, access: &Access) -> Result<(Typing, Notes), NoMemory>
     ensures { IfOk result (λ t. t ≡ steps.target_of env.now (exprs.access_of env.now access.now)) }
 {

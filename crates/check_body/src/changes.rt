@@ -150,7 +150,7 @@ fn push_in_for(
 }
 
 #[cycle(push_changes)]
-#[tactic(auto, unfolding(crate::specs::Statements::judge_of, crate::specs::Statements::kind_judge_of, crate::specs::Statements::arm_judge_of))]
+#[tactic(auto, using(crate::proofs::Opened::closed_with), unfolding(crate::specs::Statements::judge_of, crate::specs::Statements::kind_judge_of, crate::specs::Statements::arm_judge_of))]
 fn push_kind(
     alloc: Global,
     env: &mut Env,

@@ -110,7 +110,7 @@ fn push_in_for(
 }
 
 #[cycle(push_kinds)]
-#[tactic(auto, unfolding(crate::specs::Statements::judge_of, crate::specs::Statements::kind_judge_of, crate::specs::Statements::arm_judge_of))]
+#[tactic(auto, using(crate::proofs::Opened::closed_with), unfolding(crate::specs::Statements::judge_of, crate::specs::Statements::kind_judge_of, crate::specs::Statements::arm_judge_of))]
 fn push_inner(
     alloc: Global,
     labels: &[u16],
