@@ -1,4 +1,3 @@
-pub mod BodyRules
-pub mod Programs
 pub mod StatementRules
 pub mod Statements
+pub mod Steps

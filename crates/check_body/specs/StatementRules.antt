@@ -31,6 +31,8 @@ use Rattle.expression_rules.specs.declared.notes.Env.{Env}
 use Rattle.expression_rules.specs.Values.{no_notes, notes_of, notes_of_both, notes_with, Reached, Value, Argument, integer_type, may_be_host, may_be_ordinal, may_be_compatible, VariableName}
 use Rattle.expression_rules.specs.Accesses.{is_nil, entity_at, change_of, all_notes, argument_notes, refused_width, width_notes, arguments_notes, is_file}
 use Rattle.check_rules.specs.declared.fault.CheckFault.{CheckFault}
+use Rattle.check_body.specs.declared.cases.Seen.{Seen}
+use Rattle.check_body.specs.declared.kinds.StatementKind.{StatementKind}
 
 -- ---- conditions are Boolean (6.8.3.4, 6.8.3.7, 6.8.3.8)
 
@@ -98,10 +100,12 @@ abbrev pub width_kind : Table → Option Value → ℕ
 width_kind tys None = CLEAN
 width_kind tys (Some w) = kind_unless (may_be_host tys host.Integer w.judged.typing) WRONG_TYPE
 
+abbrev pub write_one : Table → Argument → Notes
+write_one tys a = notes_with (notes_of_both a.value.judged.notes (width_notes a.width)) (min (may_write tys a.value.judged.typing) (width_kind tys a.width))
+
 abbrev pub write_all : Table → List Argument → Notes
 write_all tys [] = no_notes
-write_all tys (a ∷ args) =
-    notes_of_both (notes_with (notes_of_both a.value.judged.notes (width_notes a.width)) (min (may_write tys a.value.judged.typing) (width_kind tys a.width))) (write_all tys args)
+write_all tys (a ∷ args) = notes_of_both (write_one tys a) (write_all tys args)
 
 -- the arguments behind a first one that is the file
 abbrev pub is_bare_file : StandardFile → Argument → Bool
@@ -159,10 +163,6 @@ call_notes env x args = procedure_call env.table (entity_at env x) args
 
 -- ---- `case` (6.8.3.5): constants compatible with the selector, each once
 
-pub record Seen : Type 0 where
-  pub numbers : List ℤ
-  pub kind : ℕ
-
 abbrev pub same_number : ℤ → ℤ → Bool
 same_number a b = int_le a b && int_le b a
 
@@ -176,7 +176,7 @@ constant_fits tys selector t = may_be_ordinal tys t && may_be_compatible tys sel
 abbrev pub with_constant : Table → Typing → Seen → JudgedConstant → Typing → Seen
 with_constant tys selector s c Unknown = record s { kind = min s.kind c.kind }
 with_constant tys selector s c t = record {
-  numbers = number_in c.value ∷ s.numbers;
+  numbers = s.numbers ++ number_in c.value ∷ [];
   kind = min (min s.kind c.kind) (min (kind_unless (constant_fits tys selector t) WRONG_TYPE) (kind_unless (not (has_integer s.numbers (number_in c.value))) WRONG_CONSTANT));
 }
 
@@ -274,11 +274,6 @@ with_notes env (a ∷ others) =
     notes_of_both (record_notes env (a env)) (with_notes (env_with env (a env)) others)
 
 -- ---- whole statements
-
--- a statement by its name, and the least kind of fault in its own text
-pub record StatementKind : Type 0 where
-  pub name : Name
-  pub kind : ℕ
 
 -- what the judgement of a statement says: its label; what it changes, with all in it; and
 -- the kinds of itself and of all in it, in the order of the text, where the goto statements in it may go to these labels

@@ -6,7 +6,7 @@ use Rattle.pascal_tree.specs.declared.expr.RelOp.TheVariants as rel
 use Rattle.pascal_tree.specs.declared.expr.AddOp.TheVariants as add
 use Rattle.pascal_tree.specs.declared.stmt.Constant.TheVariants as constant
 use Rattle.check_decl.specs.BlockRules.{BlockJudge}
-use Rattle.check_decl.specs.declared.layouts.LayoutFault.TheVariants.{GlobalsFull, FrameTooLarge}
+use Rattle.check_program.specs.declared.layouts.LayoutFault.TheVariants.{GlobalsFull, FrameTooLarge}
 use Rattle.check_cases.specs.Forms.{name_of, number, chars, access, index, value, argument, function_call, set_of_values, sum, relation, named_type, enumeration, range, pointer, array, record_type, at_name, at_label, empty, assign, call, goto, compound, if_then, with_do, type_at, variables_at, block, section, procedure, function, routine_at, checked, Layouts, shown, sizes}
 
 -- program z; type t = array [1..4096] of integer; begin end.

@@ -21,10 +21,10 @@ use Rattle.expression_rules.specs.ExpressionRules.{Step, in_part, in_factor, in_
 use Rattle.check_decl.specs.declared.place.Layout.{Layout}
 use Rattle.body_labels.specs.Labels.{Numbers, all_labels}
 use Rattle.check_decl.specs.BlockRules.{DeclJudge, constant_decl, type_decl, variable_decl, BlockJudge, RoutineJudge, block_of_parts, program_walk}
-use Rattle.check_decl.specs.declared.layouts.LayoutFault.{LayoutFault}
-use Rattle.check_decl.specs.Layouts.{layout_fault}
+use Rattle.check_program.specs.declared.layouts.LayoutFault.{LayoutFault}
+use Rattle.check_program.specs.Layouts.{layout_fault}
 use Rattle.check_body.specs.StatementRules.{Judge, KindJudge, ArmJudge, empty_kind, assign_kind, call_kind, goto_kind, compound_kind, if_kind, case_kind, while_kind, repeat_kind, for_kind, with_kind, statement_judge}
-use Rattle.check_body.specs.BodyRules.{body_outcome, layouts_in}
+use Rattle.check_program.specs.BodyRules.{body_outcome, layouts_in}
 
 abbrev pub name_of : ℕ → Name
 name_of n = record { 0 = n }

@@ -1,4 +1,3 @@
 pub mod Answers
 pub mod BlockRules
 pub mod Blocks
-pub mod Layouts

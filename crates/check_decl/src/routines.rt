@@ -201,7 +201,8 @@ pub fn place_inside(
     Ok(judged.here)
 }
 
-fn copy_names(alloc: Global, names: &[Name]) -> Result<Items<Name>, NoMemory>
+/// A copy of names.
+pub fn copy_names(alloc: Global, names: &[Name]) -> Result<Items<Name>, NoMemory>
     ensures { IfOk result (λ ns. ns ≡ names.now) }
 {
     let mut all = Items::new(alloc);

@@ -3,8 +3,8 @@ use Rattle.std.specs.Prelude.{ℕ, ◌+◌, min, nat_le, if◌then◌else◌, Li
 use Rattle.check_rules.specs.declared.kinds.TheConstants.{MAX_COUNTED}
 use Rattle.dice_base.specs.declared.name.Name.{Name}
 use Rattle.check_decl.specs.declared.place.Layout.{Layout}
-use Rattle.check_decl.specs.declared.layouts.LayoutFault.{LayoutFault}
-use Rattle.check_decl.specs.declared.layouts.LayoutFault.TheVariants.{GlobalsFull, FrameTooLarge}
+use Rattle.check_program.specs.declared.layouts.LayoutFault.{LayoutFault}
+use Rattle.check_program.specs.declared.layouts.LayoutFault.TheVariants.{GlobalsFull, FrameTooLarge}
 
 -- five words of linkage, eight holds and 32 temporaries beside the layout
 abbrev pub stack_charge : Layout → ℕ

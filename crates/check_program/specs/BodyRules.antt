@@ -9,6 +9,9 @@ use Rattle.check_decl.specs.declared.place.At.{At}
 use Rattle.check_decl.specs.declared.place.Owner.{Owner}
 use Rattle.check_decl.specs.declared.place.Known.{Known}
 use Rattle.check_decl.specs.declared.place.Layout.{Layout}
+use Rattle.check_decl.specs.declared.place.BodyPlace.{BodyPlace}
+use Rattle.check_decl.specs.declared.place.Row.{Row}
+use Rattle.check_rules.specs.declared.entity.Region.{Region}
 use Rattle.body_labels.specs.Labels.{Numbers}
 use Rattle.check_decl.specs.BlockRules.{Outcome, regions_at}
 use Rattle.check_body.specs.StatementRules.{Judge, first_fault}
@@ -23,6 +26,22 @@ env_at owner outer here = record {
   owner = owner.name;
   functions = owner.functions;
   changed = here.known.changed;
+}
+
+-- the place behind a body that changes these variables
+abbrev pub place_behind :
+    Env → List Layout → List BodyPlace → List Row → ℕ → List VariableName → Region → At
+place_behind env layouts places rows words changes block = record {
+  known = record {
+    table = env.table;
+    domains = env.domains;
+    changed = env.changed ++ changes;
+    layouts = layouts;
+    places = places;
+  };
+  block = block;
+  rows = rows;
+  words = words;
 }
 
 abbrev pub after_body : At → List VariableName → Option CheckFault → Outcome

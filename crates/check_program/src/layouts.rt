@@ -1,10 +1,8 @@
 //! The sizes of layouts: the program's words first, then the stack charge of each routine.
-ghost use Rattle.std.specs.Prelude.{◌≡◌, ◌+◌, min};
-ghost use Rattle.std.specs.Prelude.{None};
-ghost use Rattle.check_decl.specs.Layouts as spec;
+ghost use Rattle.std.specs.Prelude.{◌≡◌};
+ghost use Rattle.check_program.specs.Layouts as spec;
 
-use crate::items::counted_sum;
-use crate::place::Layout;
+use check_decl::{Layout, counted_sum};
 use dice_base::Name;
 
 /// The first layout that does not fit its limit.

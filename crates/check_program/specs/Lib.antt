@@ -1,0 +1,3 @@
+pub mod BodyRules
+pub mod Layouts
+pub mod Programs
