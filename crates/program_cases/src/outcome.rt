@@ -1,4 +1,5 @@
 //! What the check says of a text, in words.
+use check_decl::resolve_declarations;
 use check_program::{LayoutFault, check_program, layout_fault};
 use check_rules::{CheckEnd, CheckFault};
 use dice_base::{Name, NoMemory, Text, push_decimal};
@@ -88,4 +89,27 @@ pub fn are_judged_so(alloc: Global, cases: &[(&[u8], &[u8], &[u8])]) -> Result<b
         }
     }
     Ok(true)
+}
+
+/// Whether the check says so of each of these texts.
+pub fn are_texts_judged_so(alloc: Global, cases: &[(&[u8], &[u8])]) -> Result<bool, Fail> {
+    for (text, expected) in cases {
+        let outcome = outcome_of(alloc, text)?;
+        if outcome.bytes() != *expected {
+            return Ok(false);
+        }
+    }
+    Ok(true)
+}
+
+/// Whether the declarations of a text have no fault, whatever its statements say.
+#[tactic(auto, using(expression_laws::proofs::Words::lexes_each))]
+pub fn are_declared(alloc: Global, text: &[u8]) -> Result<bool, Fail> {
+    let tokens = scan(alloc, text)?;
+    let program = parse_program(alloc, &tokens)?;
+    match resolve_declarations(alloc, program.tree()) {
+        Ok(_) => Ok(true),
+        Err(CheckEnd::NoMemory) => Err(Fail::from(NoMemory)),
+        Err(_) => Ok(false),
+    }
 }

@@ -1,5 +1,5 @@
 //! Sizes, the order of faults, and programs without any.
-use crate::outcome::are_judged_so;
+use crate::outcome::{are_declared, are_judged_so, are_texts_judged_so};
 use std::test::Fail;
 
 const SIZE: [(&[u8], &[u8], &[u8]); 6] = [
@@ -136,5 +136,29 @@ const CLEAN: [(&[u8], &[u8], &[u8]); 5] = [
 #[test]
 fn clean_cases(rt: HostRuntime) -> Result<(), Fail> {
     assert!(rt; are_judged_so(rt.alloc(), &CLEAN)?);
+    Ok(())
+}
+
+const PARAMETERS: [(&[u8], &[u8]); 4] = [
+    (
+        b"program z(input, output, input); begin end.",
+        b"parameter 1",
+    ),
+    (b"program z(input, output); begin end.", b"clean"),
+    (b"program z(files); begin end.", b"parameter 1"),
+    (b"program z(output); begin end.", b"clean"),
+];
+
+#[test]
+fn parameter_cases(rt: HostRuntime) -> Result<(), Fail> {
+    assert!(rt; are_texts_judged_so(rt.alloc(), &PARAMETERS)?);
+    Ok(())
+}
+
+#[test]
+fn declarations_stand_alone(rt: HostRuntime) -> Result<(), Fail> {
+    let alloc = rt.alloc();
+    assert!(rt; are_declared(alloc, b"program z; var x: integer; begin x := y end.")?);
+    assert!(rt; !are_declared(alloc, b"program z; var x: y; begin end.")?);
     Ok(())
 }
