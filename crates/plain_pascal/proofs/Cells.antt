@@ -18,53 +18,53 @@ apart_back c d (inr h) = inl h
 
 find_all : (T : Cell → Type 0) (p : Cell → Bool) (xs ys : List Cell) (c : Cell) → AllByRecursion T (xs ++ ys) → find p xs ≡ Some c → T c
 find_all T p [] ys c h e = absurd (grind (arith, e))
-find_all T p (x ∷ xs) ys c h e = by (p x) e
+find_all T p (x ∷ xs) ys c h e = by (p x) e (λ k. find_all T p xs ys c h.1 k)
   where
-    by : (b : Bool) → (if b then Some x else find p xs) ≡ Some c → T c
-    by true e = let same : x ≡ c = cc e in subst T same h.0
-    by false e = find_all T p xs ys c h.1 e
+    by : (b : Bool) → (if b then Some x else find p xs) ≡ Some c → (find p xs ≡ Some c → T c) → T c
+    by true e rest = let same : x ≡ c = cc e in subst T same h.0
+    by false e rest = rest e
 
 -- the size and the end of a cell
 found_cell : (used : ℕ) (p : Cell → Bool) (xs ys : List Cell) (c : Cell) → AreCells used (xs ++ ys) → find p xs ≡ Some c → (1 ≤ c.size) × (c.place + c.size ≤ used)
 found_cell used p [] ys c h e = absurd (grind (arith, e))
-found_cell used p (x ∷ xs) ys c h e = by (p x) e
+found_cell used p (x ∷ xs) ys c h e = by (p x) e (λ k. found_cell used p xs ys c h.3 k)
   where
-    by : (b : Bool) → (if b then Some x else find p xs) ≡ Some c → (1 ≤ c.size) × (c.place + c.size ≤ used)
-    by true e = let same : x ≡ c = cc e in subst (λ y. (1 ≤ y.size) × (y.place + y.size ≤ used)) same (h.0, h.1)
-    by false e = found_cell used p xs ys c h.3 e
+    by : (b : Bool) → (if b then Some x else find p xs) ≡ Some c → (find p xs ≡ Some c → (1 ≤ c.size) × (c.place + c.size ≤ used)) → (1 ≤ c.size) × (c.place + c.size ≤ used)
+    by true e rest = let same : x ≡ c = cc e in subst (λ y. (1 ≤ y.size) × (y.place + y.size ≤ used)) same (h.0, h.1)
+    by false e rest = rest e
 
 all_without : (T : Cell → Type 0) (n : ℕ) (xs ys : List Cell) → AllByRecursion T (xs ++ ys) → AllByRecursion T (without n xs ++ ys)
 all_without T n [] ys h = h
-all_without T n (x ∷ xs) ys h = by (x.place == n)
+all_without T n (x ∷ xs) ys h = by (x.place == n) (all_without T n xs ys h.1)
   where
-    by : (b : Bool) → AllByRecursion T ((if not b then x ∷ without n xs else without n xs) ++ ys)
-    by true = all_without T n xs ys h.1
-    by false = (h.0, all_without T n xs ys h.1)
+    by : (b : Bool) → AllByRecursion T (without n xs ++ ys) → AllByRecursion T ((if not b then x ∷ without n xs else without n xs) ++ ys)
+    by true rest = rest
+    by false rest = (h.0, rest)
 
 cells_without : (used n : ℕ) (xs ys : List Cell) → AreCells used (xs ++ ys) → AreCells used (without n xs ++ ys)
 cells_without used n [] ys h = h
-cells_without used n (x ∷ xs) ys h = by (x.place == n)
+cells_without used n (x ∷ xs) ys h = by (x.place == n) (cells_without used n xs ys h.3)
   where
-    by : (b : Bool) → AreCells used ((if not b then x ∷ without n xs else without n xs) ++ ys)
-    by true = cells_without used n xs ys h.3
-    by false = (h.0, h.1, all_without (Apart x) n xs ys h.2, cells_without used n xs ys h.3)
+    by : (b : Bool) → AreCells used (without n xs ++ ys) → AreCells used ((if not b then x ∷ without n xs else without n xs) ++ ys)
+    by true rest = rest
+    by false rest = (h.0, h.1, all_without (Apart x) n xs ys h.2, rest)
 
 -- the other cells lie apart from one that is taken out
 others_apart : (used : ℕ) (p : Cell → Bool) (xs ys : List Cell) (c : Cell) → AreCells used (xs ++ ys) → find p xs ≡ Some c → AllByRecursion (Apart c) (without c.place xs ++ ys)
 others_apart used p [] ys c h e = absurd (grind (arith, e))
-others_apart used p (x ∷ xs) ys c h e = by (p x) e
+others_apart used p (x ∷ xs) ys c h e = by (p x) e (λ k. others_apart used p xs ys c h.3 k)
   where
     dropped : (b : Bool) → (x.place == c.place) ≡ b → x ≡ c → AllByRecursion (Apart c) ((if not b then x ∷ without c.place xs else without c.place xs) ++ ys)
     dropped true t same = subst (λ y. AllByRecursion (Apart y) (without c.place xs ++ ys)) same (all_without (Apart x) c.place xs ys h.2)
     dropped false t same = absurd (let place : x.place ≡ c.place = ap (λ y. y.place) same in grind (arith, nat_tests, t, place))
 
-    kept : (b : Bool) → find p xs ≡ Some c → AllByRecursion (Apart c) ((if not b then x ∷ without c.place xs else without c.place xs) ++ ys)
-    kept true e = others_apart used p xs ys c h.3 e
-    kept false e = (apart_back x c (find_all (Apart x) p xs ys c h.2 e), others_apart used p xs ys c h.3 e)
+    kept : (b : Bool) → find p xs ≡ Some c → AllByRecursion (Apart c) (without c.place xs ++ ys) → AllByRecursion (Apart c) ((if not b then x ∷ without c.place xs else without c.place xs) ++ ys)
+    kept true e rest = rest
+    kept false e rest = (apart_back x c (find_all (Apart x) p xs ys c h.2 e), rest)
 
-    by : (b : Bool) → (if b then Some x else find p xs) ≡ Some c → AllByRecursion (Apart c) (without c.place (x ∷ xs) ++ ys)
-    by true e = dropped (x.place == c.place) refl (cc e)
-    by false e = kept (x.place == c.place) e
+    by : (b : Bool) → (if b then Some x else find p xs) ≡ Some c → (find p xs ≡ Some c → AllByRecursion (Apart c) (without c.place xs ++ ys)) → AllByRecursion (Apart c) (without c.place (x ∷ xs) ++ ys)
+    by true e rest = let same : x ≡ c = cc e in dropped (x.place == c.place) refl same
+    by false e rest = kept (x.place == c.place) e (rest e)
 
 all_inserted : (T : Cell → Type 0) (xs ys : List Cell) (c : Cell) → T c → AllByRecursion T (xs ++ ys) → AllByRecursion T (xs ++ (c ∷ ys))
 all_inserted T [] ys c t h = (t, h)
@@ -133,9 +133,9 @@ given_after d newest c used free good le cells =
     let low : c.place + c.size ≤ used = cells.1 in
     then_after d (record d { used = used; live = c ∷ d.live; free = free }) (given c (record d { used = used; free = free })) here
     (words_after (record d { used = used; live = c ∷ d.live; free = free }) newest (Heap c.place) (replicate c.size 0) here.good
-    (let long : length (replicate c.size 0) ≡ c.size = zeros c.size in omega (arith, low, le, long)) (all_zero c.size))
+    (let long : length {A = ℕ} (replicate c.size 0) ≡ c.size = zeros c.size in omega (arith, low, le, long)) (all_zero c.size))
   where
-    zeros : (n : ℕ) → length (replicate n 0) ≡ n
+    zeros : (n : ℕ) → length {A = ℕ} (replicate n 0) ≡ n
     zeros zero = refl
     zeros (suc n) = ap suc (zeros n)
 
@@ -152,19 +152,19 @@ all_below : (used size : ℕ) (cs : List Cell) → AreCells used cs → AllByRec
 all_below used size [] h = tt
 all_below used size (c ∷ cs) h = (inr h.1, all_below used size cs h.3)
 
+-- a statement is left with data in order, in which no kind of any value and no place is another than before
+abbrev pub IsLeft : Data → Exit → Type 0
+IsLeft d (Leaves to e) = IsAfter d e
+IsLeft d (Breaks x) = Unit {0}
+
 -- the pointer to a new cell is stored
 module _ (d : Data) (newest : ℕ) (p : Place) (good : IsData d) (lies : LiesIn d.activations newest p 1) where
-  -- what comes after a statement is in order
-  abbrev pub IsLeft : Exit → Type 0
-  IsLeft (Leaves to e) = IsAfter d e
-  IsLeft (Breaks x) = Unit {0}
-
   stored_pointer : (c : Cell) (e : Data) → IsAfter d e → 1 ≤ c.size → c.place + c.size ≤ heap_count → IsAfter d (with_word e p (pointer_to c.place))
   stored_pointer c e after some low =
       then_after d e (with_word e p (pointer_to c.place)) after
       (word_after e newest p (pointer_to c.place) after.good (lies_alike d.activations e.activations after.alike newest p 1 lies) (omega (arith, some, low)))
 
-  new_left : (size : ℕ) → 1 ≤ size → (x : Option Cell) → find (λ c. c.size == size) d.free ≡ x → IsLeft (given_cell p (taken size x d))
+  new_left : (size : ℕ) → 1 ≤ size → (x : Option Cell) → find (λ c. c.size == size) d.free ≡ x → IsLeft d (given_cell p (taken size x d))
   new_left size some (Some c) e =
       let back : AreCells d.used d.free = back_cells d.used d.live d.free good.cells in
       let (big, low) = found_cell d.used (λ c. c.size == size) d.free [] c (subst (AreCells d.used) (sym (no_more d.free)) back) e in
@@ -183,7 +183,7 @@ module _ (d : Data) (newest : ℕ) (p : Place) (good : IsData d) (lies : LiesIn 
       c : Cell
       c = record { place = d.used; size = size }
 
-      by : (b : Bool) → nat_le (d.used + size) heap_count ≡ b → IsLeft (given_cell p (if b then Some (c, given c (record d { used = d.used + size })) else None))
+      by : (b : Bool) → nat_le (d.used + size) heap_count ≡ b → IsLeft d (given_cell p (if b then Some (c, given c (record d { used = d.used + size })) else None))
       by false t = tt
       by true t =
           let room : d.used + size ≤ heap_count = grind (arith, nat_tests, t) in
@@ -191,13 +191,13 @@ module _ (d : Data) (newest : ℕ) (p : Place) (good : IsData d) (lies : LiesIn 
           stored_pointer c (given c (record d { used = d.used + size })) (given_after d newest c (d.used + size) d.free good room cells) some room
 
   -- `new`
-  pub new_after : (words : ℕ) → IsLeft (given_cell p (new_cell words d))
+  pub new_after : (words : ℕ) → IsLeft d (given_cell p (new_cell words d))
   new_after words = new_left (cell_size words) (omega arith) (find (λ c. c.size == cell_size words) d.free) refl
 
 -- `dispose`
-pub dispose_after : (d : Data) (pointer words : ℕ) (newest : ℕ) (p : Place) (good : IsData d) (lies : LiesIn d.activations newest p 1) → IsLeft d newest p good lies (disposed (cell_of d pointer words) d)
-dispose_after d pointer words newest p good lies = by (cell_of d pointer words) refl
+pub dispose_after : (d : Data) (pointer words : ℕ) → IsData d → IsLeft d (disposed (cell_of d pointer words) d)
+dispose_after d pointer words good = by (cell_of d pointer words) refl
   where
-    by : (x : Option Cell) → cell_of d pointer words ≡ x → IsLeft d newest p good lies (disposed x d)
+    by : (x : Option Cell) → cell_of d pointer words ≡ x → IsLeft d (disposed x d)
     by None e = tt
     by (Some c) e = given_back_after d pointer words c good e

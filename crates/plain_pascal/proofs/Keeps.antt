@@ -45,13 +45,28 @@ module _ (P : Program) (program : IsProgram P) (n : ℕ) (cs : List Control) (d 
   Stands fs = NewestStands P acts (record { statement = n; frames = fs } ∷ cs) acts
 
   -- what the statement of the newest activation sees
-  sees_at : (row : Row) → row.routine ≡ a.routine → (found : List Kind) → AreOf acts newest (row.around ++ found) a.holds → (fs : List PendingFrame) → Stands fs → Sees P d newest row
+  pub sees_at : (row : Row) → row.routine ≡ a.routine → (found : List Kind) → AreOf acts newest (row.around ++ found) a.holds → (fs : List PendingFrame) → Stands fs → Sees P d newest row
   sees_at row inside found held fs h = record {
     data_good = good;
     scoped = subst (λ ys. Scoped P ys newest row.routine) (sym same) (subst (λ r. Scoped P acts newest r) (sym inside) (all_scoped P program.no_zero a xs (standing_all P acts (record { statement = n; frames = fs } ∷ cs) acts h)));
     found = found;
     held = subst (λ ys. AreOf ys newest (row.around ++ found) (newest_holds ys)) (sym same) held;
   }
+
+  -- the statement that is in progress
+  pub at_work : (f : PendingFrame) (fs : List PendingFrame) → Stands (f ∷ fs) → AtStatement P acts newest a (record { statement = n; frames = f ∷ fs })
+  at_work f fs h = by h.1
+    where
+      by : AtStatement P acts newest a (record { statement = n; frames = f ∷ fs }) ⊎ ((n ≡ a.routine) × (f ∷ fs ≡ []) × (a.holds ≡ [])) → AtStatement P acts newest a (record { statement = n; frames = f ∷ fs })
+      by (inl at) = at
+      by (inr e) = absurd (let k : f ∷ fs ≡ [] = e.1 in grind (arith, k))
+
+  pub progress_at : (f : PendingFrame) (fs : List PendingFrame) (at : AtStatement P acts newest a (record { statement = n; frames = f ∷ fs })) → InProgress P acts newest at.row (f ∷ fs)
+  progress_at f fs at = by at.frames
+    where
+      by : (f ∷ fs ≡ []) ⊎ InProgress P acts newest at.row (f ∷ fs) → InProgress P acts newest at.row (f ∷ fs)
+      by (inl e) = absurd (grind (arith, e))
+      by (inr p) = p
 
   -- frames are put in the place of others
   in_place : (f : PendingFrame) (fs gs : List PendingFrame) → Stands (f ∷ fs)
@@ -87,32 +102,40 @@ module _ (P : Program) (program : IsProgram P) (n : ℕ) (cs : List Control) (d 
   nothing_more (k ∷ done) = ap (λ x. k ∷ x) (nothing_more done)
 
   -- an operation that has its parts gives a value to the frame outside
-  pub operation_stands : (o : Op) (ps : Exprs) (kept : List Value) (fs : List PendingFrame) (v : Value) → part_at ps (length kept) ≡ None → held_by o ≡ []
-      → ((row : Row) (k : Kind) (done : List Kind) → Sees P d newest row → IsOp P row.routine row.around o done k → AreOf acts newest done kept → IsOf acts newest k v)
-      → Stands (record { node = OfExpr (Operation o ps); kept = kept } ∷ fs) → Stands (given v fs)
-  operation_stands o ps kept fs v full holds gives h = in_place f fs (given v fs) h (λ row sees p. by row fs sees p)
-    where
-      f : PendingFrame
-      f = record { node = OfExpr (Operation o ps); kept = kept }
+  module _ (o : Op) (ps : Exprs) (kept : List Value) (fs : List PendingFrame) (v : Value) (full : part_at ps (length kept) ≡ None) where
+    abbrev own : PendingFrame
+    own = record { node = OfExpr (Operation o ps); kept = kept }
 
-      is_of : (row : Row) (k : Kind) (done : List Kind) → Sees P d newest row → IsOp P row.routine row.around o (done ++ []) k → AreOf acts newest done kept → IsOf acts newest k v
-      is_of row k done sees t ho = gives row k done sees (subst (λ x. IsOp P row.routine row.around o x k) (nothing_more done) t) ho
+    pub operation_progress : (row : Row) → ((k : Kind) (done : List Kind) → IsOp P row.routine row.around o done k → AreOf acts newest done kept → IsOf acts newest k v)
+        → InProgress P acts newest row (own ∷ fs) → InProgress P acts newest row (given v fs)
+    operation_progress row gives p = by fs p
+      where
+        is_of : (k : Kind) (done : List Kind) → IsOp P row.routine row.around o (done ++ []) k → AreOf acts newest done kept → IsOf acts newest k v
+        is_of k done t ho = gives k done (subst (λ x. IsOp P row.routine row.around o x k) (nothing_more done) t) ho
 
-      by : (row : Row) (gs : List PendingFrame) → Sees P d newest row → InProgress P acts newest row (f ∷ gs) → InProgress P acts newest row (given v gs) × (kinds_held row (given v gs) ≡ kinds_held row (f ∷ gs))
-      by row [] sees (rest, fr, inside) = absurd (let clash : OfExpr (Operation o ps) ≡ OfStatement row.form = fr.0 in grind (arith, clash))
-      by row (g ∷ gs) sees (k ∷ ks, fr, inside) =
-          absurd (let (e, found) = some_part P row fr.5.0 k ks ps fr.5.1 in
-          let clash : None ≡ Some e = sym full ∙ ap (part_at ps) (as_many P acts newest row fr.5.0 kept fr.5.2) ∙ found in grind (arith, clash))
-      by row (g ∷ gs) sees ([], fr, inside) =
-          let inner : OfExpr (Operation o ps) ≡ OfExpr (Operation fr.0 fr.1) = fr.4 in
-          let op_same : fr.0 ≡ o = cc inner in (
-            (
+        by : (gs : List PendingFrame) → InProgress P acts newest row (own ∷ gs) → InProgress P acts newest row (given v gs)
+        by [] (rest, fr, inside) = absurd (let clash : OfExpr (Operation o ps) ≡ OfStatement row.form = fr.0 in grind (arith, clash))
+        by (g ∷ gs) (k ∷ ks, fr, inside) =
+            absurd (let (e, found) = some_part P row fr.5.0 k ks ps fr.5.1 in
+            let clash : None ≡ Some e = sym full ∙ ap (part_at ps) (as_many P acts newest row fr.5.0 kept fr.5.2) ∙ found in grind (arith, clash))
+        by (g ∷ gs) ([], fr, inside) =
+            let inner : OfExpr (Operation o ps) ≡ OfExpr (Operation fr.0 fr.1) = fr.4 in
+            let op_same : fr.0 ≡ o = cc inner in (
               fr.3,
-              value_keeps P acts newest row fr.2 fr.3 (g ∷ gs) v (is_of row fr.2 fr.5.0 sees (subst (λ x. IsOp P row.routine row.around x (fr.5.0 ++ []) fr.2) op_same fr.5.3) fr.5.2) fr.6,
-              given_inside (OfStatement row.form) f g gs v inside,
-            ),
-            given_held row o ps kept g gs v holds inside,
-          )
+              value_keeps P acts newest row fr.2 fr.3 (g ∷ gs) v (is_of fr.2 fr.5.0 (subst (λ x. IsOp P row.routine row.around x (fr.5.0 ++ []) fr.2) op_same fr.5.3) fr.5.2) fr.6,
+              given_inside (OfStatement row.form) own g gs v inside,
+            )
+
+    operation_held : (row : Row) → held_by o ≡ [] → InProgress P acts newest row (own ∷ fs) → kinds_held row (given v fs) ≡ kinds_held row (own ∷ fs)
+    operation_held row holds p = by fs p
+      where
+        by : (gs : List PendingFrame) → InProgress P acts newest row (own ∷ gs) → kinds_held row (given v gs) ≡ kinds_held row (own ∷ gs)
+        by [] (rest, fr, inside) = absurd (let clash : OfExpr (Operation o ps) ≡ OfStatement row.form = fr.0 in grind (arith, clash))
+        by (g ∷ gs) (rest, fr, inside) = given_held row o ps kept g gs v holds inside
+
+    pub operation_stands : held_by o ≡ [] → ((row : Row) (k : Kind) (done : List Kind) → Sees P d newest row → IsOp P row.routine row.around o done k → AreOf acts newest done kept → IsOf acts newest k v)
+        → Stands (own ∷ fs) → Stands (given v fs)
+    operation_stands holds gives h = in_place own fs (given v fs) h (λ row sees p. (operation_progress row (λ k done t ho. gives row k done sees t ho) p, operation_held row holds p))
 
   plain_holds : (o : Op) → IsPlain o → held_by o ≡ []
   plain_holds (op.Call c) i = absurd i
@@ -128,7 +151,7 @@ module _ (P : Program) (program : IsProgram P) (n : ℕ) (cs : List Control) (d 
       (subst (GivesOf d.activations newest k) value (value_sound P d newest row sees o done k kept plain t (subst (λ ys. AreOf ys newest done kept) (sym same) ho)))) h
 
   -- an effect has no value
-  effect_kind : (row : Row) (e : EffectOp) (k : Kind) (done : List Kind) → IsOp P row.routine row.around (op.Effect e) done k → IsOf acts newest k NoValue
+  pub effect_kind : (row : Row) (e : EffectOp) (k : Kind) (done : List Kind) → IsOp P row.routine row.around (op.Effect e) done k → IsOf acts newest k NoValue
   effect_kind row e NoKind done t = tt
   effect_kind row e WordKind done t = absurd t
   effect_kind row e SetKind done t = absurd t

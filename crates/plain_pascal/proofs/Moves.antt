@@ -23,7 +23,7 @@ module _ (P : Program) (acts acts' : List Activation) (bound : ℕ) (keeps : (ne
   of_moved newest less (PlaceKind n) (At p) h = keeps newest less p n h
   of_moved newest less k v h = absurd h
 
-  values_moved : (newest : ℕ) → newest < bound → (ks : List Kind) (vs : List Value) → AreOf acts newest ks vs → AreOf acts' newest ks vs
+  pub values_moved : (newest : ℕ) → newest < bound → (ks : List Kind) (vs : List Value) → AreOf acts newest ks vs → AreOf acts' newest ks vs
   values_moved newest less [] [] h = tt
   values_moved newest less [] (v ∷ vs) h = absurd h
   values_moved newest less (k ∷ ks) [] h = absurd h
@@ -32,7 +32,7 @@ module _ (P : Program) (acts acts' : List Activation) (bound : ℕ) (keeps : (ne
   fits_moved : (newest : ℕ) → newest < bound → (row : Row) (rest : List Kind) (f : PendingFrame) (T : List Kind → Type 0) → Fits P acts newest row rest f T → Fits P acts' newest row rest f T
   fits_moved newest less row rest f T h = (h.0, h.1, values_moved newest less h.0 f.kept h.2, h.3)
 
-  frames_moved : (newest : ℕ) → newest < bound → (row : Row) (rest : List Kind) (fs : List PendingFrame) → AreFrames P acts newest row rest fs → AreFrames P acts' newest row rest fs
+  pub frames_moved : (newest : ℕ) → newest < bound → (row : Row) (rest : List Kind) (fs : List PendingFrame) → AreFrames P acts newest row rest fs → AreFrames P acts' newest row rest fs
   frames_moved newest less row rest [] h = absurd h
   frames_moved newest less row rest (f ∷ []) h = (h.0, fits_moved newest less row rest f (IsStatement P row.routine row.form.op) h.1)
   frames_moved newest less row rest (f ∷ (g ∷ fs)) h = (h.0, h.1, h.2, h.3, h.4, fits_moved newest less row rest f (λ x. IsOp P row.routine row.around h.0 x h.2) h.5, frames_moved newest less row (h.2 ∷ h.3) (g ∷ fs) h.6)

@@ -51,7 +51,7 @@ module _ (P : Program) (acts acts' : List Activation) (alike : AllAlike acts act
       let (c, more, at, routine) = same_newest (from_activation (x ∷ xs) a.static_link) (from_activation (y ∷ ys) b.static_link) p.1 p.2 r.owner tails p.3 p.4 in
       (less, c, more, at, routine)
 
-  activation_alike : (a b : Activation) (xs ys : List Activation) → Alike a b → AllAlike xs ys → IsActivation P acts a xs → IsActivation P acts' b ys
+  pub activation_alike : (a b : Activation) (xs ys : List Activation) → Alike a b → AllAlike xs ys → IsActivation P acts a xs → IsActivation P acts' b ys
   activation_alike a b xs ys e h is = record {
     row = is.row;
     found = ap (routine_of P) (sym e.routine) ∙ is.found;
@@ -59,7 +59,7 @@ module _ (P : Program) (acts acts' : List Activation) (alike : AllAlike acts act
     parent = parent_alike is.row a b xs ys e h is.parent;
   }
 
-  waits_alike : (n m : ℕ) (cs : List Control) (xs ys : List Activation) → n ≡ m → AllAlike xs ys → AllWait P acts n cs xs → AllWait P acts' m cs ys
+  pub waits_alike : (n m : ℕ) (cs : List Control) (xs ys : List Activation) → n ≡ m → AllAlike xs ys → AllWait P acts n cs xs → AllWait P acts' m cs ys
   waits_alike n m [] [] [] e h w = tt
   waits_alike n m [] [] (y ∷ ys) e h w = absurd h
   waits_alike n m [] (x ∷ xs) ys e h w = absurd w
