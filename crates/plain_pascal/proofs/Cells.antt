@@ -1,10 +1,10 @@
 -- Variables of the heap that are made and given back: their cells lie apart.
-use Rattle.std.proofs.Common.{◌≡◌, ℕ, zero, suc, ◌+◌, ◌*◌, ◌<◌, ◌≤◌, Bool, true, false, nat_le, List, [], ◌∷◌, ◌++◌, length, Option, Some, None, refl, sym, ap, ◌∙◌, subst, arith, inl, inr}
-use Rattle.std.specs.Prelude.{◌⊎◌, ◌==◌, find, filter, not, if◌then◌else◌, max, replicate}
+use Rattle.std.proofs.Common.{◌≡◌, ℕ, zero, suc, ◌+◌, ◌≤◌, Bool, true, false, nat_le, List, [], ◌∷◌, ◌++◌, length, Option, Some, None, refl, sym, ap, subst, arith, inl, inr}
+use Rattle.std.specs.Prelude.{◌==◌, find, not, if◌then◌else◌, replicate}
 use Rattle.std.specs.List.{AllByRecursion}
 use Rattle.std.proofs.lemmas.Bool.Decides.{nat_tests}
-use Rattle.plain_pascal.specs.State.{Place, Heap, Cell, Activation, Data, heap_count}
-use Rattle.plain_pascal.specs.Memory.{with_word, with_words}
+use Rattle.plain_pascal.specs.State.{Place, Heap, Cell, Data, heap_count}
+use Rattle.plain_pascal.specs.Memory.{with_word}
 use Rattle.plain_pascal.specs.Heap.{pointer_to, cell_size, is_cell, cell_of, without, given, taken, new_cell, given_back}
 use Rattle.plain_pascal.specs.Statements.{Exit, Leaves, Breaks, given_cell, disposed}
 use Rattle.plain_pascal.specs.Valid.{IsWord, LiesIn, Apart, AreCells, IsData}

@@ -1,6 +1,6 @@
 -- Control that comes to a gate of its routine, or goes on behind a statement, finds a state in order.
 use Rattle.std.proofs.Common.{◌≡◌, ℕ, zero, suc, ◌+◌, ◌-◌, ◌<◌, ◌≤◌, Bool, true, false, nat_le, List, [], ◌∷◌, ◌++◌, length, Option, Some, None, refl, sym, ap, ◌∙◌, subst, arith, inl, inr}
-use Rattle.std.specs.Prelude.{◌⊎◌, ℤ, pos, negsuc, ◌+ℤ◌, ◌-ℤ◌, ◌≤ℤ◌, int_le, nat_lt, if◌then◌else◌, take, drop, get_or}
+use Rattle.std.specs.Prelude.{ℤ, pos, negsuc, ◌+ℤ◌, ◌-ℤ◌, ◌≤ℤ◌, int_le, nat_lt, if◌then◌else◌, take, drop}
 use Rattle.std.proofs.lemmas.Bool.Decides.{nat_tests}
 use Rattle.std.proofs.lemmas.Int.{ints}
 use Rattle.dice_base.specs.Word.{signed_value}
@@ -8,15 +8,14 @@ use Rattle.core_tree.specs.declared.form.ForLoop.{ForLoop}
 use Rattle.core_tree.specs.declared.form.StatementOp.{StatementOp}
 use Rattle.core_tree.specs.declared.form.StatementOp.TheVariants as stmt
 use Rattle.core_tree.specs.Control.{Continuation, ToGate, ToStep, ToEnd, ToLeave, ToFinish}
-use Rattle.plain_pascal.specs.Program.{Kind, NoKind, WordKind, SetKind, PlaceKind, Row, RoutineRow, Program, row_of, routine_of}
-use Rattle.plain_pascal.specs.State.{Place, Global, Local, Heap, Literal, Value, Word, Members, At, NoValue, PendingFrame, Activation, Data, Control}
-use Rattle.plain_pascal.specs.Memory.{from_activation, words_of, word_in, word_at, variable_place, with_word}
+use Rattle.plain_pascal.specs.Program.{Kind, NoKind, WordKind, SetKind, PlaceKind, RoutineRow, Program, row_of}
+use Rattle.plain_pascal.specs.State.{Place, Global, Local, Heap, Literal, Value, Word, Members, At, NoValue, Activation, Data, Control}
+use Rattle.plain_pascal.specs.Memory.{words_of, word_in, word_at, variable_place}
 use Rattle.plain_pascal.specs.Integers.{word_of}
 use Rattle.plain_pascal.specs.Operations.{part}
 use Rattle.plain_pascal.specs.Step.{at_gate, arrived, control_value, held_in, holds_cut, is_last, limit_in, next_value, stack_charges, stepped_loop, turn_of, turned}
 use Rattle.plain_pascal.specs.Typed.{IsStatement, IsVariable}
-use Rattle.plain_pascal.specs.Valid.{IsWord, IsOf, AreOf, ArePlain, LiesIn, HasParent, HasGate, HasForm, GoesOn, IsActivation, AllWait, NewestStands, IsData, IsProgram, IsWellFormed}
-use Rattle.plain_pascal.proofs.Index.{tells}
+use Rattle.plain_pascal.specs.Valid.{IsWord, IsOf, AreOf, ArePlain, LiesIn, HasParent, HasGate, GoesOn, IsActivation, AllWait, NewestStands, IsData, IsProgram, IsWellFormed}
 use Rattle.plain_pascal.proofs.Moves.{activation_moved, values_moved, waits_moved}
 use Rattle.plain_pascal.proofs.Places.{Scoped, variable_lies}
 use Rattle.plain_pascal.proofs.Scopes.{all_scoped, waiting_all}

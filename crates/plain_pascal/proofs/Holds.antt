@@ -1,16 +1,16 @@
 -- A record of a `with` that is found keeps a state in order.
-use Rattle.std.proofs.Common.{◌≡◌, ℕ, suc, ◌+◌, ◌-◌, ◌≤◌, List, [], ◌∷◌, ◌++◌, length, Some, None, refl, sym, ap, ◌∙◌, subst, arith, inl, inr}
+use Rattle.std.proofs.Common.{◌≡◌, ℕ, suc, ◌+◌, ◌-◌, List, [], ◌∷◌, ◌++◌, length, Some, None, sym, ◌∙◌, subst, arith, inl, inr}
 use Rattle.std.specs.Prelude.{take}
 use Rattle.core_tree.specs.declared.op.Op.TheVariants as op
 use Rattle.core_tree.specs.declared.op.EffectOp.TheVariants as effect
 use Rattle.core_tree.specs.Plain.{Operation, Exprs, part_at}
-use Rattle.plain_pascal.specs.Program.{Kind, NoKind, WordKind, SetKind, PlaceKind, Row, Program, row_of}
+use Rattle.plain_pascal.specs.Program.{Kind, PlaceKind, Row, Program}
 use Rattle.plain_pascal.specs.State.{Value, Word, Members, At, NoValue, OfStatement, OfExpr, PendingFrame, Activation, Data, Control}
 use Rattle.plain_pascal.specs.Operations.{part}
 use Rattle.plain_pascal.specs.Statements.{Does, held, held_in}
 use Rattle.plain_pascal.specs.Step.{effected, given}
 use Rattle.plain_pascal.specs.Typed.{IsEffect}
-use Rattle.plain_pascal.specs.Valid.{IsOf, AreOf, AreFrames, AtStatement, InProgress, NewestStands, IsData, IsProgram, IsWellFormed, held_by_first, kinds_held}
+use Rattle.plain_pascal.specs.Valid.{IsOf, AreOf, AtStatement, InProgress, NewestStands, IsData, IsProgram, IsWellFormed, held_by_first, kinds_held}
 use Rattle.plain_pascal.proofs.Gates.{Holding, lies_held, more_kinds, nothing_more, rehold}
 use Rattle.plain_pascal.proofs.Held.{effect_outside, given_more, number_of, outer_part}
 use Rattle.plain_pascal.proofs.Keeps.{at_work, effect_kind, effect_typed, operation_progress, progress_at}

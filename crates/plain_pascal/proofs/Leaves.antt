@@ -1,23 +1,21 @@
 -- A statement that has all its parts leaves a state in order.
 use Rattle.std.proofs.Common.{◌≡◌, ℕ, suc, ◌+◌, ◌-◌, ◌≤◌, Bool, true, false, List, [], ◌∷◌, ◌++◌, length, Option, Some, None, refl, sym, ap, ◌∙◌, subst, arith}
-use Rattle.std.specs.Prelude.{ℤ, not, ◌==◌, ◌&&◌, find, if◌then◌else◌, slice_index, take}
-use Rattle.dice_base.specs.Word.{signed_value}
+use Rattle.std.specs.Prelude.{not, ◌==◌, ◌&&◌, find, if◌then◌else◌, slice_index, take}
 use Rattle.core_tree.specs.declared.op.Storage.{Storage}
 use Rattle.core_tree.specs.declared.form.CaseLabel.{CaseLabel}
 use Rattle.core_tree.specs.declared.form.ForLoop.{ForLoop}
 use Rattle.core_tree.specs.declared.form.StatementOp.{StatementOp}
 use Rattle.core_tree.specs.declared.form.StatementOp.TheVariants as stmt
 use Rattle.core_tree.specs.Plain.{Operation, Exprs, Form, part_at}
-use Rattle.plain_pascal.specs.Program.{Kind, NoKind, WordKind, SetKind, PlaceKind, Row, Program, held_inside, row_of, routine_of}
-use Rattle.plain_pascal.specs.State.{Place, Value, Word, Members, At, NoValue, OfStatement, OfExpr, PendingFrame, Activation, Data, Control}
-use Rattle.plain_pascal.specs.Memory.{place_in, variable_place, with_word}
+use Rattle.plain_pascal.specs.Program.{Kind, WordKind, PlaceKind, Row, Program, held_inside, row_of, routine_of}
+use Rattle.plain_pascal.specs.State.{Value, Word, Members, At, NoValue, OfStatement, OfExpr, PendingFrame, Activation, Data, Control}
+use Rattle.plain_pascal.specs.Memory.{variable_place, with_word}
 use Rattle.plain_pascal.specs.Integers.{Result, Gives, Fails, within, word_of, is_true}
 use Rattle.plain_pascal.specs.Reading.{Reading, Read, Unread, line_read}
-use Rattle.plain_pascal.specs.Heap.{cell_of, new_cell}
 use Rattle.plain_pascal.specs.Operations.{checked, part, first_number, first_place, first_word, second_number, second_word}
-use Rattle.plain_pascal.specs.Statements.{Way, Behind, Inside, ToLabel, Exit, Leaves, Breaks, arm_of, assigned, begun, branch, ended_line, exit_of, given_cell, held, held_in, is_past, line_behind, other_branch, went_on, with_checked, wrote}
+use Rattle.plain_pascal.specs.Statements.{Way, Behind, Inside, ToLabel, Exit, Leaves, Breaks, arm_of, assigned, begun, branch, ended_line, exit_of, held, held_in, is_past, line_behind, other_branch, went_on, with_checked, wrote}
 use Rattle.plain_pascal.specs.Step.{left, stack_charges, statement_done, label_gate, labels_in}
-use Rattle.plain_pascal.specs.Typed.{IsStatement, IsStored, IsVariable, stored_kind, stored_words}
+use Rattle.plain_pascal.specs.Typed.{IsStatement, IsStored, stored_kind, stored_words}
 use Rattle.plain_pascal.specs.Valid.{IsOf, AreOf, LiesIn, AllWait, AtStatement, InProgress, IsActivation, IsData, IsProgram, IsWellFormed, NewestStands, held_by_first, kinds_held}
 use Rattle.plain_pascal.proofs.Cells.{IsLeft, dispose_after, new_after}
 use Rattle.plain_pascal.proofs.Ends.{ExitFits, exit_fits}

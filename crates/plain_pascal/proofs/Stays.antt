@@ -1,5 +1,5 @@
 -- A stored word, and a passed gate, keep a state in order.
-use Rattle.std.proofs.Common.{◌≡◌, ℕ, suc, ◌-◌, ◌<◌, List, [], ◌∷◌, ◌++◌, length, Some, refl, sym, ap, ◌∙◌, subst, arith, inl, inr}
+use Rattle.std.proofs.Common.{◌≡◌, ℕ, suc, ◌-◌, ◌<◌, List, [], ◌∷◌, length, Some, refl, sym, ap, ◌∙◌, subst, arith, inl, inr}
 use Rattle.std.specs.Prelude.{◌⊎◌, drop}
 use Rattle.plain_pascal.specs.Program.{Kind, Row, RoutineRow, Program, row_of, routine_of}
 use Rattle.plain_pascal.specs.State.{OfStatement, PendingFrame, Activation, Control}

@@ -9,7 +9,7 @@ use Rattle.core_tree.specs.declared.op.Storage.{Storage}
 use Rattle.plain_pascal.specs.Statements.{assigned}
 use Rattle.plain_pascal.specs.Step.{small_step}
 use Rattle.plain_pascal.specs.Typed.{stored_kind, stored_words}
-use Rattle.plain_pascal.specs.Valid.{IsData, IsOf, IsProgram, IsWellFormed, LiesIn, NewestStands}
+use Rattle.plain_pascal.specs.Valid.{IsData, IsOf, IsProgram, IsTyped, IsWellFormed, LiesIn, NewestStands}
 use Rattle.plain_pascal.specs.Run.{Marks, cleared, continued, driven, fresh, rests, run_of}
 use Rattle.plain_pascal.specs.Blocks.{blocks_of, pascal}
 use Rattle.plain_pascal.specs.Stages.{stage_of}
@@ -57,6 +57,10 @@ NextRunsAreStretches = (x : Routine) (m : ℕ) → IsResolved x m → (marks : M
 -- each step keeps a state in order
 abbrev pub StepsKeep : Type 0
 StepsKeep = (P : Program) → IsProgram P → (s : State) → IsWellFormed P s → IsWellFormed P (small_step P s)
+
+-- of a resolved program the steps of a program in order, but for its forms, are known
+abbrev pub ResolvedOrder : Type 0
+ResolvedOrder = (x : Routine) (m : ℕ) → IsResolved x m → IsTyped (program_of x) → IsProgram (program_of x)
 
 -- an assignment to a part that lies inside what it names keeps the data and all activations in order
 abbrev pub AssignmentsKeep : Type 0

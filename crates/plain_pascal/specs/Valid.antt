@@ -1,11 +1,11 @@
 -- The states that a program can be in: each activation is one of a routine of the program, stands at a statement of it,
 -- and has the words, holds and kept values of that place.
-use Rattle.std.specs.Prelude.{◌≡◌, ℕ, zero, suc, ◌+◌, ◌≤◌, ◌<◌, true, List, [], ◌∷◌, ◌++◌, length, Option, Some, None, slice_get, slice_index, ◌⊎◌}
+use Rattle.std.specs.Prelude.{◌≡◌, ℕ, zero, suc, ◌+◌, ◌≤◌, ◌<◌, true, List, [], ◌∷◌, ◌++◌, length, Some, None, slice_get, slice_index, ◌⊎◌}
 use Rattle.std.specs.List.{AllByRecursion}
 use Rattle.dice_base.specs.declared.link.LinkTo.TheVariants.{Child, Label}
 use Rattle.core_tree.specs.declared.op.Op.{Op}
 use Rattle.core_tree.specs.declared.op.Op.TheVariants as op
-use Rattle.core_tree.specs.Plain.{Expr, Operation, Exprs, NoMore, And, part_at, Form}
+use Rattle.core_tree.specs.Plain.{Operation, Exprs, NoMore, And, part_at, Form}
 use Rattle.core_tree.specs.Control.{Continuation, ToGate, ToStep, ToEnd, ToLeave, ToFinish}
 use Rattle.plain_pascal.specs.Program.{Kind, NoKind, WordKind, SetKind, PlaceKind, Row, RoutineRow, Program, held_by, held_inside, row_of, routine_of}
 use Rattle.plain_pascal.specs.State.{Status, NotStarted, Halted, Place, Global, Local, Heap, Literal, Value, Word, Members, At, NoValue, Node, OfStatement, OfExpr, PendingFrame, Activation, Cell, Data, Control, State, globals_count, heap_count}
@@ -184,6 +184,11 @@ pub record HasWays (P : Program) (row : Row) : Type 0 where
   pub inner : (k : ℕ) → has_way row.form.op (Child k) ≡ true → HasGate P row.routine (row.around ++ held_inside row.form.op row.form.parts) (slice_index row.branches k)
   pub labelled : (l : ℕ) → has_way row.form.op (Label l) ≡ true → HasGate P row.routine row.around (label_gate (labels_in (routine_of P row.routine)) l)
   pub behind : GoesOn P row.routine row.around row.continuation
+
+-- a program whose statements have operations with parts of their kinds; 0 is no name
+pub record IsTyped (P : Program) : Type 0 where
+  pub forms : (n : ℕ) (row : Row) → row_of P n ≡ Some row → IsForm P row
+  pub no_zero : routine_of P 0 ≡ None
 
 -- a program whose statements are in order, and in which a routine's name is no statement's
 pub record IsProgram (P : Program) : Type 0 where
