@@ -9,7 +9,7 @@ use Rattle.core_tree.specs.Plain.{Form, BlockForm, ProgramBlock, RoutineBlock, S
 use Rattle.core_tree.specs.Control.{Continuation, Enclosing, MachineRow, RoutineRow as ListedRoutine, ToGate, ToStep, ToEnd, ToLeave, ToFinish, around_inner, machine_flow, entry_by, entries_of, entry_of, first_entry, op_in, core_routines, routine_list, routines_list}
 use Rattle.plain_pascal.specs.Resolved.{IsWhole, AreWhole, begins_within, count, IsWholeRoutine, AreWholeRoutines, IsFound, IsResolved}
 use Rattle.plain_pascal.specs.Laws.{ResolvedOrder}
-use Rattle.plain_pascal.specs.Program.{Program as Table, Kind, Row, RoutineRow, body_entry, held_around, held_inside, program_of, row_in, row_of}
+use Rattle.plain_pascal.specs.Program.{Program as Table, Kind, Row, RoutineRow, body_entry, held_around, held_inside, form_in, owner_in, program_of, row_in, row_of}
 use Rattle.plain_pascal.specs.Blocks.{has_way}
 use Rattle.plain_pascal.specs.Valid.{GoesOn, HasEntry, HasGate}
 use Rattle.plain_pascal.proofs.Gates.{more_kinds, nothing_more}
@@ -206,10 +206,24 @@ module _ (P : Table) where
 entered_listed : (x : Routine) (m : ℕ) → IsResolved x m → AllByRecursion (IsEnteredListed (program_of x)) (core_routines x)
 entered_listed (Block head inner body) m c = routine_entered (program_of (Block head inner body)) (Block head inner body) c.whole head.name c.blocks_found
 
+-- what has no form has no owner
+no_owner : (form : BlockForm) (owner : ℕ) → form_in form ≡ None → owner_in form owner ≡ 0
+no_owner ProgramBlock owner e = refl
+no_owner (RoutineBlock f) owner e = absurd (grind (arith, e))
+no_owner (StatementBlock f) owner e = refl
+
+abbrev IsOwned : RoutineRow → Type 0
+IsOwned x = x.form ≡ None → x.owner ≡ 0
+
+all_owned : (P : Table) (rs : List ListedRoutine) → AllByRecursion (OfRoutines P IsOwned) rs
+all_owned P [] = tt
+all_owned P (r ∷ rs) = ((λ e. no_owner (head_form r.head) r.owner e), all_owned P rs)
+
 pub resolved_order : ResolvedOrder
 resolved_order x m c typed =
     let entered : AllByRecursion (IsEnteredListed (program_of x)) (core_routines x) = entered_listed x m c in
     record {
+      main = (c.program.row, c.program.found, c.program.form, routine_found (program_of x) IsOwned 1 c.program.row (all_owned (program_of x) (core_routines x)) c.program.found c.program.form);
       entries = λ n r found. (routine_found (program_of x) (IsEntered (program_of x)) n r entered found).1;
       no_zero = typed.no_zero;
       bare = λ n r found. ap (row_of (program_of x)) (sym (row_named (program_of x) n r found)) ∙ (routine_found (program_of x) (IsEntered (program_of x)) n r entered found).0;

@@ -58,7 +58,11 @@ NextRunsAreStretches = (x : Routine) (m : ℕ) → IsResolved x m → (marks : M
 abbrev pub StepsKeep : Type 0
 StepsKeep = (P : Program) → IsProgram P → (s : State) → IsWellFormed P s → IsWellFormed P (small_step P s)
 
--- of a resolved program the steps of a program in order, but for its forms, are known
+-- a run keeps a state in order, from the start of the program on
+abbrev pub RunsKeep : Type 0
+RunsKeep = (P : Program) → IsProgram P → (marks : Marks) (k : ℕ) (s : State) → IsWellFormed P s → IsWellFormed P (run_of P marks k s).last
+
+-- a resolved program with operations on parts of their kinds is in order
 abbrev pub ResolvedOrder : Type 0
 ResolvedOrder = (x : Routine) (m : ℕ) → IsResolved x m → IsTyped (program_of x) → IsProgram (program_of x)
 

@@ -190,8 +190,9 @@ pub record IsTyped (P : Program) : Type 0 where
   pub forms : (n : ℕ) (row : Row) → row_of P n ≡ Some row → IsForm P row
   pub no_zero : routine_of P 0 ≡ None
 
--- a program whose statements are in order, and in which a routine's name is no statement's
+-- a program whose statements are in order, and in which a routine's name is no statement's; its own block has the name 1
 pub record IsProgram (P : Program) : Type 0 where
+  pub main : (r : RoutineRow) × (routine_of P 1 ≡ Some r) × (r.form ≡ None) × (r.owner ≡ 0)
   pub entries : (n : ℕ) (r : RoutineRow) → routine_of P n ≡ Some r → HasEntry P r
   pub no_zero : routine_of P 0 ≡ None
   pub bare : (n : ℕ) (r : RoutineRow) → routine_of P n ≡ Some r → row_of P n ≡ None
