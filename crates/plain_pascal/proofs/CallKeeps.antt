@@ -8,7 +8,7 @@ use Rattle.plain_pascal.specs.Program.{Kind, Row, RoutineRow, Program, routine_o
 use Rattle.plain_pascal.specs.State.{Value, OfStatement, OfExpr, PendingFrame, Activation, Data, Control}
 use Rattle.plain_pascal.specs.Step.{frame_words, parent_of}
 use Rattle.plain_pascal.specs.Typed.{slots_of, slots_in, argument_kinds, IsOp, IsCall, IsScopeOf}
-use Rattle.plain_pascal.specs.Valid.{AreOf, AreFrames, AtStatement, IsActivation, NewestStands, IsData, IsProgram}
+use Rattle.plain_pascal.specs.Valid.{AreOf, AreFrames, InProgress, AtStatement, IsActivation, NewestStands, IsData, IsProgram}
 use Rattle.plain_pascal.proofs.Kept.{as_many}
 use Rattle.plain_pascal.proofs.Keeps.{some_part}
 use Rattle.plain_pascal.proofs.Scopes.{standing_all}
@@ -82,9 +82,9 @@ module _ (P : Program) (program : IsProgram P) (n : ℕ) (cs : List Control) (d 
       → NewestStands P (new ∷ acts) (record { statement = r.entry; frames = [] } ∷ (record { statement = n; frames = f ∷ fs } ∷ cs)) (new ∷ acts)
   call_stands h = by h.1
     where
-      framed : (at : AtStatement P acts (length xs) a (record { statement = n; frames = f ∷ fs })) → (f ∷ fs ≡ []) ⊎ ((rest : List Kind) × AreFrames P acts (length xs) at.row rest (f ∷ fs)) → IsTyped at.row.routine
+      framed : (at : AtStatement P acts (length xs) a (record { statement = n; frames = f ∷ fs })) → (f ∷ fs ≡ []) ⊎ InProgress P acts (length xs) at.row (f ∷ fs) → IsTyped at.row.routine
       framed at (inl e) = absurd (grind (arith, e))
-      framed at (inr (rest, fr)) = typed_call at.row rest fs fr
+      framed at (inr (rest, fr, inside)) = typed_call at.row rest fs fr
 
       by : AtStatement P acts (length xs) a (record { statement = n; frames = f ∷ fs }) ⊎ ((n ≡ a.routine) × (f ∷ fs ≡ []) × (a.holds ≡ []))
           → NewestStands P (new ∷ acts) (record { statement = r.entry; frames = [] } ∷ (record { statement = n; frames = f ∷ fs } ∷ cs)) (new ∷ acts)

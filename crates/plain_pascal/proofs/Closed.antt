@@ -12,9 +12,10 @@ use Rattle.core_tree.specs.Control.{Continuation, Enclosing, MachineRow, ToGate,
 use Rattle.plain_machine.specs.Links.{Part, First, Gate, Step as StepPart, End as EndPart, Spot}
 use Rattle.plain_machine.specs.Meaning.{HasEnd, IsClosed}
 use Rattle.plain_pascal.specs.Resolved.{IsWhole, AreWhole, begins_within, count, IsWholeRoutine, AreWholeRoutines, HasProgram, HasRoutine, IsFound, IsListed, HasRow, IsGateOf, AreLabelled, AreDeclared}
-use Rattle.plain_pascal.specs.Program.{Program as Table, Row, RoutineRow, row_in, row_of, form_in, body_entry, routine_in, routine_of}
+use Rattle.plain_pascal.specs.Program.{Program as Table, Kind, Row, RoutineRow, row_in, row_of, form_in, body_entry, routine_in, routine_of}
 use Rattle.plain_pascal.specs.Step.{label_gate, labels_in}
 use Rattle.plain_pascal.specs.Run.{entry_in}
+use Rattle.plain_pascal.specs.Valid.{HasGate}
 use Rattle.plain_pascal.specs.Blocks.{has_part, has_way, has_link, is_for, is_with, pascal, gate, spot_of, routine_block, block_in, form_end, routine_end, way_end, blocks_of}
 use Rattle.plain_pascal.proofs.Named.{every_front, every_back, every_join, OfStatements, statement_found, OfRoutines, routine_found}
 use Rattle.plain_pascal.proofs.Stage.{HasPartIn, IsSpot}
@@ -34,6 +35,10 @@ module _ (P : Table) where
 
   row_spot : (n r : ℕ) → HasRow P n r → IsSpot P (gate n)
   row_spot n r h = subst (λ x. HasPartIn P (block_in x (routine_of P n)) (gate n).part) (sym h.found) refl
+
+  -- a gate is that of a statement
+  pub gate_row : (r : ℕ) (held : List Kind) (n : ℕ) → HasGate P r held n → HasRow P n r
+  gate_row r held n g = record { row = g.row; found = g.found; inside = g.inside }
 
   own_row_of : (f : Form) (n r : ℕ) (branches : List ℕ) (behind : Continuation) (around : List Enclosing) → AllByRecursion (IsFound P) (own_of (Some f) n r branches behind around) → HasRow P n r
   own_row_of f n r branches behind around h = record { row = row_at f n r branches behind around; found = ap row_in h.0; inside = refl }
@@ -192,7 +197,7 @@ module _ (P : Table) where
       of_statement : (row : Row) → row_of P n ≡ Some row → (to : LinkTo) → has_link (StatementBlock row.form) to ≡ true → HasEnd pascal (blocks_of P) n to
       of_statement row found Next h = end_from n Next (spot_of row.continuation) (ap (λ r. way_end P r n Next) found) (statement_found P IsClosedRow n row rows found).0.0
       of_statement row found (Child k) h = end_from n (Child k) (gate (slice_index row.branches k)) (ap (λ r. way_end P r n (Child k)) found) (row_spot (slice_index row.branches k) row.routine ((statement_found P IsClosedRow n row rows found).1 k h))
-      of_statement row found (Label l) h = end_from n (Label l) (gate (label_gate (labels_in (routine_of P row.routine)) l)) (ap (λ r. way_end P r n (Label l)) found) (row_spot (label_gate (labels_in (routine_of P row.routine)) l) row.routine (labels n row l found h))
+      of_statement row found (Label l) h = end_from n (Label l) (gate (label_gate (labels_in (routine_of P row.routine)) l)) (ap (λ r. way_end P r n (Label l)) found) (row_spot (label_gate (labels_in (routine_of P row.routine)) l) row.routine (gate_row row.routine row.around (label_gate (labels_in (routine_of P row.routine)) l) (labels n row l found h)))
       of_statement row found (ToRoutine c) h =
           let r : HasRoutine P c.0 = calls n row c found h in
           end_from n (ToRoutine c) (record { name = c.0; part = First })

@@ -45,7 +45,7 @@ or_right false b e = e
 
 -- ---- a statement's own effect
 
-abbrev ExitFits : StatementOp → Exit → Type 0
+abbrev pub ExitFits : StatementOp → Exit → Type 0
 ExitFits o (Leaves to t) = has_way o (link_of to) ≡ true
 ExitFits o (Breaks e) = Unit {0}
 
@@ -107,7 +107,7 @@ dispose_fits : (words : ℕ) (x : Option Cell) (d : Data) → ExitFits (stmt.Dis
 dispose_fits words None d = tt
 dispose_fits words (Some c) d = refl
 
-exit_fits : (o : StatementOp) (holds : ℕ) (kept : List Value) (d : Data) → ExitFits o (exit_of o holds kept d)
+pub exit_fits : (o : StatementOp) (holds : ℕ) (kept : List Value) (d : Data) → ExitFits o (exit_of o holds kept d)
 exit_fits stmt.Empty holds kept d = refl
 exit_fits (stmt.Goto label) holds kept d = same label
 exit_fits (stmt.Assign to) holds kept d = assign_fits (stmt.Assign to) refl (checked to (part kept 1)) (λ v. assigned to (first_place kept) v d)

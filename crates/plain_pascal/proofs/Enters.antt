@@ -130,6 +130,6 @@ entry_stands P acts newest r new h name holds = record {
   row = h.0;
   found = h.1;
   inside = h.2 ∙ sym name;
-  held = ([], ap length holds ∙ sym (ap (λ ks. length ks + 0) h.3), subst (λ vs. AreOf acts newest (h.0.around ++ []) vs) (sym holds) (subst (λ ks. AreOf acts newest (ks ++ []) []) (sym h.3) tt));
+  held = subst (λ vs. AreOf acts newest (h.0.around ++ []) vs) (sym holds) (subst (λ ks. AreOf acts newest (ks ++ []) []) (sym h.3) tt);
   frames = inl refl;
 }

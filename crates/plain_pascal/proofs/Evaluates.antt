@@ -43,7 +43,7 @@ module _ (P : Program) (d : Data) (newest : ℕ) (row : Row) (sees : Sees P d ne
   narrowed whole words (Members ws ∷ vs) h le = absurd h.0
   narrowed whole words (NoValue ∷ vs) h le = absurd h.0
 
-  checked_sound : (to : Storage) (k : Kind) (kept : List Value) → IsStored to k → AreOf acts newest (k ∷ []) kept → GivesOf acts newest (stored_kind to) (checked to (part kept 0))
+  pub checked_sound : (to : Storage) (k : Kind) (kept : List Value) → IsStored to k → AreOf acts newest (k ∷ []) kept → GivesOf acts newest (stored_kind to) (checked to (part kept 0))
   checked_sound (storage.Ordinal first last) WordKind kept t h = ranged_sound acts newest 1 first last (signed_value (word_in (part kept 0))) t
   checked_sound (storage.Ordinal first last) NoKind kept t h = absurd t
   checked_sound (storage.Ordinal first last) SetKind kept t h = absurd t

@@ -3,7 +3,7 @@ use Rattle.std.proofs.Common.{ℕ, ◌+◌, ◌-◌, ◌*◌, ◌<◌, ℤ, pos,
 use Rattle.std.specs.Prelude.{neg_ℤ, ◌==◌, if◌then◌else◌}
 use Rattle.std.specs.List.{AllByRecursion}
 use Rattle.plain_pascal.specs.Integers.{is_integer}
-use Rattle.plain_pascal.specs.Reading.{Reading, Read, Unread, is_blank, is_digit, unblanked, digits_read, number_read, signed_read, in_integers, integer_read, character_read}
+use Rattle.plain_pascal.specs.Reading.{Reading, Read, Unread, is_blank, is_digit, unblanked, digits_read, number_read, signed_read, in_integers, integer_read, character_read, behind_line, line_read}
 
 abbrev pub AreBytes : List ℕ → Type 0
 AreBytes = AllByRecursion (λ b. b < 256)
@@ -59,3 +59,15 @@ integer_bytes cs h = integers_bytes (signed_read (unblanked cs)) (signed_bytes (
 pub character_bytes : (cs : List ℕ) → AreBytes cs → LeavesBytes (character_read cs)
 character_bytes [] h = tt
 character_bytes (c ∷ cs) h = h.1
+
+behind_bytes : (cs : List ℕ) → AreBytes cs → AreBytes (behind_line cs)
+behind_bytes [] h = tt
+behind_bytes (c ∷ cs) h = by (c == 10) (behind_bytes cs h.1)
+  where
+    by : (b : Bool) → AreBytes (behind_line cs) → AreBytes (if b then cs else behind_line cs)
+    by true rest = h.1
+    by false rest = rest
+
+pub line_bytes : (cs : List ℕ) → AreBytes cs → LeavesBytes (line_read cs)
+line_bytes [] h = tt
+line_bytes (c ∷ cs) h = behind_bytes (c ∷ cs) h

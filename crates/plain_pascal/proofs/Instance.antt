@@ -10,12 +10,13 @@ use Rattle.plain_pascal.specs.Step.{label_gate, labels_in}
 use Rattle.plain_pascal.specs.Run.{steps_limit}
 use Rattle.plain_pascal.specs.Evaluation.{part_ticks}
 use Rattle.plain_pascal.specs.Blocks.{has_way, parts_call}
-use Rattle.plain_pascal.specs.Resolved.{HasRoutine, HasRow, IsFound, IsResolved, IsWholeRoutine, depth}
+use Rattle.plain_pascal.specs.Valid.{HasGate}
+use Rattle.plain_pascal.specs.Resolved.{HasRoutine, IsFound, IsResolved, IsWholeRoutine, depth}
 use Rattle.plain_pascal.proofs.Named.{OfStatements, statement_found}
 use Rattle.plain_pascal.proofs.Locals.{source, P}
 
 abbrev Labelled : Row → Type 0
-Labelled row = (l : ℕ) → has_way row.form.op (Label l) ≡ true → HasRow P (label_gate (labels_in (routine_of P row.routine)) l) row.routine
+Labelled row = (l : ℕ) → has_way row.form.op (Label l) ≡ true → HasGate P row.routine row.around (label_gate (labels_in (routine_of P row.routine)) l)
 
 abbrev Declared : Row → Type 0
 Declared row = (c : Name) → parts_call row.form.parts c.0 ≡ true → HasRoutine P c.0

@@ -3,7 +3,7 @@ use Rattle.std.proofs.Common.{◌≡◌, ℕ, List, [], ◌∷◌, ◌++◌, len
 use Rattle.std.specs.Prelude.{◌⊎◌}
 use Rattle.core_tree.specs.declared.op.Op.{Op}
 use Rattle.core_tree.specs.Plain.{Expr, Operation, Exprs, NoMore, And, part_at}
-use Rattle.plain_pascal.specs.Program.{Kind, NoKind, WordKind, SetKind, PlaceKind, Row, Program, row_of}
+use Rattle.plain_pascal.specs.Program.{Kind, NoKind, WordKind, SetKind, PlaceKind, Row, Program, held_by}
 use Rattle.plain_pascal.specs.State.{Value, NoValue, OfStatement, OfExpr, PendingFrame, Activation, Data, Control}
 use Rattle.plain_pascal.specs.Integers.{Gives}
 use Rattle.plain_pascal.specs.Operations.{newest_holds, value_of}
@@ -11,7 +11,9 @@ use Rattle.plain_pascal.specs.Step.{given, frame_of, parts_of}
 use Rattle.plain_pascal.specs.Typed.{AreExprs, each, IsEffect, IsOp}
 use Rattle.core_tree.specs.declared.op.EffectOp.{EffectOp}
 use Rattle.core_tree.specs.declared.op.Op.TheVariants as op
-use Rattle.plain_pascal.specs.Valid.{IsOf, AreOf, AreFrames, AtStatement, NewestStands, IsData, IsProgram}
+use Rattle.plain_pascal.specs.Valid.{IsOf, AreOf, AreFrames, InProgress, AtStatement, NewestStands, IsData, IsProgram, held_by_first, kinds_held, parts_done}
+use Rattle.plain_pascal.specs.Blocks.{node_at}
+use Rattle.plain_pascal.proofs.Held.{given_held, given_inside}
 use Rattle.plain_pascal.proofs.Sound.{GivesOf}
 use Rattle.plain_pascal.proofs.Places.{Scoped}
 use Rattle.plain_pascal.proofs.Values.{Sees}
@@ -43,7 +45,7 @@ module _ (P : Program) (program : IsProgram P) (n : ℕ) (cs : List Control) (d 
   Stands fs = NewestStands P acts (record { statement = n; frames = fs } ∷ cs) acts
 
   -- what the statement of the newest activation sees
-  sees_at : (row : Row) → row.routine ≡ a.routine → (found : List Kind) → AreOf acts newest (row.around ++ found) a.holds → (fs : List PendingFrame) → Stands fs → Sees P d newest row
+  pub sees_at : (row : Row) → row.routine ≡ a.routine → (found : List Kind) → AreOf acts newest (row.around ++ found) a.holds → (fs : List PendingFrame) → Stands fs → Sees P d newest row
   sees_at row inside found held fs h = record {
     data_good = good;
     scoped = subst (λ ys. Scoped P ys newest row.routine) (sym same) (subst (λ r. Scoped P acts newest r) (sym inside) (all_scoped P program.no_zero a xs (standing_all P acts (record { statement = n; frames = fs } ∷ cs) acts h)));
@@ -51,24 +53,41 @@ module _ (P : Program) (program : IsProgram P) (n : ℕ) (cs : List Control) (d 
     held = subst (λ ys. AreOf ys newest (row.around ++ found) (newest_holds ys)) (sym same) held;
   }
 
+  -- the statement that is in progress
+  pub at_work : (f : PendingFrame) (fs : List PendingFrame) → Stands (f ∷ fs) → AtStatement P acts newest a (record { statement = n; frames = f ∷ fs })
+  at_work f fs h = by h.1
+    where
+      by : AtStatement P acts newest a (record { statement = n; frames = f ∷ fs }) ⊎ ((n ≡ a.routine) × (f ∷ fs ≡ []) × (a.holds ≡ [])) → AtStatement P acts newest a (record { statement = n; frames = f ∷ fs })
+      by (inl at) = at
+      by (inr e) = absurd (let k : f ∷ fs ≡ [] = e.1 in grind (arith, k))
+
+  pub progress_at : (f : PendingFrame) (fs : List PendingFrame) (at : AtStatement P acts newest a (record { statement = n; frames = f ∷ fs })) → InProgress P acts newest at.row (f ∷ fs)
+  progress_at f fs at = by at.frames
+    where
+      by : (f ∷ fs ≡ []) ⊎ InProgress P acts newest at.row (f ∷ fs) → InProgress P acts newest at.row (f ∷ fs)
+      by (inl e) = absurd (grind (arith, e))
+      by (inr p) = p
+
   -- frames are put in the place of others
   in_place : (f : PendingFrame) (fs gs : List PendingFrame) → Stands (f ∷ fs)
-      → ((row : Row) (rest : List Kind) → row_of P n ≡ Some row → Sees P d newest row → AreFrames P acts newest row rest (f ∷ fs) → (more : List Kind) × AreFrames P acts newest row more gs)
+      → ((row : Row) → Sees P d newest row → InProgress P acts newest row (f ∷ fs) → InProgress P acts newest row gs × (kinds_held row gs ≡ kinds_held row (f ∷ fs)))
       → Stands gs
   in_place f fs gs h on = (h.0, by h.1, h.2)
     where
-      framed : (at : AtStatement P acts newest a (record { statement = n; frames = f ∷ fs })) → (f ∷ fs ≡ []) ⊎ ((rest : List Kind) × AreFrames P acts newest at.row rest (f ∷ fs)) → (more : List Kind) × AreFrames P acts newest at.row more gs
+      framed : (at : AtStatement P acts newest a (record { statement = n; frames = f ∷ fs })) → (f ∷ fs ≡ []) ⊎ InProgress P acts newest at.row (f ∷ fs) → InProgress P acts newest at.row gs × (kinds_held at.row gs ≡ kinds_held at.row (f ∷ fs))
       framed at (inl e) = absurd (grind (arith, e))
-      framed at (inr (rest, fr)) = on at.row rest at.found (sees_at at.row at.inside at.held.0 at.held.2 (f ∷ fs) h) fr
+      framed at (inr p) = on at.row (sees_at at.row at.inside (held_by_first (parts_done (f ∷ fs)) at.row.form.parts) at.held (f ∷ fs) h) p
 
       by : AtStatement P acts newest a (record { statement = n; frames = f ∷ fs }) ⊎ ((n ≡ a.routine) × (f ∷ fs ≡ []) × (a.holds ≡ []))
           → AtStatement P acts newest a (record { statement = n; frames = gs }) ⊎ ((n ≡ a.routine) × (gs ≡ []) × (a.holds ≡ []))
-      by (inl at) = inl (record { row = at.row; found = at.found; inside = at.inside; held = at.held; frames = inr (framed at at.frames) })
+      by (inl at) =
+          let (p, same_held) = framed at at.frames in
+          inl (record { row = at.row; found = at.found; inside = at.inside; held = subst (λ ks. AreOf acts newest ks a.holds) (sym same_held) at.held; frames = inr p })
       by (inr e) = absurd (let k : f ∷ fs ≡ [] = e.1 in grind (arith, k))
 
   -- the next part gets a frame
   pub part_stands : (f : PendingFrame) (fs : List PendingFrame) (e : Expr) → part_at (parts_of f.node) (length f.kept) ≡ Some e → Stands (f ∷ fs) → Stands (frame_of (OfExpr e) ∷ (f ∷ fs))
-  part_stands f fs e found h = in_place f fs (frame_of (OfExpr e) ∷ (f ∷ fs)) h (λ row rest r sees fr. by row rest fs fr)
+  part_stands f fs e found h = in_place f fs (frame_of (OfExpr e) ∷ (f ∷ fs)) h (λ row sees p. let (rest, fr, inside) = p in let (more, frames) = by row rest fs fr in ((more, frames, (ap node_at found, inside)), refl))
     where
       full : (row : Row) (done : List Kind) → AreExprs P row.routine row.around (parts_of f.node) (done ++ []) → AreOf acts newest done f.kept → None ≡ Some e
       full row done hs ho = sym (no_part P row done (parts_of f.node) hs) ∙ ap (part_at (parts_of f.node)) (sym (as_many P acts newest row done f.kept ho)) ∙ found
@@ -82,46 +101,65 @@ module _ (P : Program) (program : IsProgram P) (n : ℕ) (cs : List Control) (d 
   nothing_more [] = refl
   nothing_more (k ∷ done) = ap (λ x. k ∷ x) (nothing_more done)
 
-  -- an operation that has its parts gives a value to the frame outside, and tells the kinds of its parts
-  pub operation_stands : (o : Op) (ps : Exprs) (kept : List Value) (fs : List PendingFrame) (v : Value) → part_at ps (length kept) ≡ None
-      → ((row : Row) (k : Kind) (done : List Kind) → Sees P d newest row → IsOp P row.routine row.around o done k → AreOf acts newest done kept → IsOf acts newest k v)
-      → Stands (record { node = OfExpr (Operation o ps); kept = kept } ∷ fs) → Stands (given v fs)
-  operation_stands o ps kept fs v full gives h = in_place f fs (given v fs) h (λ row rest r sees fr. by row rest fs sees fr)
-    where
-      f : PendingFrame
-      f = record { node = OfExpr (Operation o ps); kept = kept }
+  -- an operation that has its parts gives a value to the frame outside
+  module _ (o : Op) (ps : Exprs) (kept : List Value) (fs : List PendingFrame) (v : Value) (full : part_at ps (length kept) ≡ None) where
+    abbrev own : PendingFrame
+    own = record { node = OfExpr (Operation o ps); kept = kept }
 
-      is_of : (row : Row) (k : Kind) (done : List Kind) → Sees P d newest row → IsOp P row.routine row.around o (done ++ []) k → AreOf acts newest done kept → IsOf acts newest k v
-      is_of row k done sees t ho = gives row k done sees (subst (λ x. IsOp P row.routine row.around o x k) (nothing_more done) t) ho
+    pub operation_progress : (row : Row) → ((k : Kind) (done : List Kind) → IsOp P row.routine row.around o done k → AreOf acts newest done kept → IsOf acts newest k v)
+        → InProgress P acts newest row (own ∷ fs) → InProgress P acts newest row (given v fs)
+    operation_progress row gives p = by fs p
+      where
+        is_of : (k : Kind) (done : List Kind) → IsOp P row.routine row.around o (done ++ []) k → AreOf acts newest done kept → IsOf acts newest k v
+        is_of k done t ho = gives k done (subst (λ x. IsOp P row.routine row.around o x k) (nothing_more done) t) ho
 
-      by : (row : Row) (rest : List Kind) (gs : List PendingFrame) → Sees P d newest row → AreFrames P acts newest row rest (f ∷ gs) → (more : List Kind) × AreFrames P acts newest row more (given v gs)
-      by row rest [] sees fr = absurd (let clash : OfExpr (Operation o ps) ≡ OfStatement row.form = fr.0 in grind (arith, clash))
-      by row (k ∷ ks) (g ∷ gs) sees fr =
-          absurd (let (e, found) = some_part P row fr.5.0 k ks ps fr.5.1 in
-          let clash : None ≡ Some e = sym full ∙ ap (part_at ps) (as_many P acts newest row fr.5.0 kept fr.5.2) ∙ found in grind (arith, clash))
-      by row [] (g ∷ gs) sees fr =
-          let inner : OfExpr (Operation o ps) ≡ OfExpr (Operation fr.0 fr.1) = fr.4 in
-          let op_same : fr.0 ≡ o = cc inner in
-          (fr.3, value_keeps P acts newest row fr.2 fr.3 (g ∷ gs) v (is_of row fr.2 fr.5.0 sees (subst (λ x. IsOp P row.routine row.around x (fr.5.0 ++ []) fr.2) op_same fr.5.3) fr.5.2) fr.6)
+        by : (gs : List PendingFrame) → InProgress P acts newest row (own ∷ gs) → InProgress P acts newest row (given v gs)
+        by [] (rest, fr, inside) = absurd (let clash : OfExpr (Operation o ps) ≡ OfStatement row.form = fr.0 in grind (arith, clash))
+        by (g ∷ gs) (k ∷ ks, fr, inside) =
+            absurd (let (e, found) = some_part P row fr.5.0 k ks ps fr.5.1 in
+            let clash : None ≡ Some e = sym full ∙ ap (part_at ps) (as_many P acts newest row fr.5.0 kept fr.5.2) ∙ found in grind (arith, clash))
+        by (g ∷ gs) ([], fr, inside) =
+            let inner : OfExpr (Operation o ps) ≡ OfExpr (Operation fr.0 fr.1) = fr.4 in
+            let op_same : fr.0 ≡ o = cc inner in (
+              fr.3,
+              value_keeps P acts newest row fr.2 fr.3 (g ∷ gs) v (is_of fr.2 fr.5.0 (subst (λ x. IsOp P row.routine row.around x (fr.5.0 ++ []) fr.2) op_same fr.5.3) fr.5.2) fr.6,
+              given_inside (OfStatement row.form) own g gs v inside,
+            )
+
+    operation_held : (row : Row) → held_by o ≡ [] → InProgress P acts newest row (own ∷ fs) → kinds_held row (given v fs) ≡ kinds_held row (own ∷ fs)
+    operation_held row holds p = by fs p
+      where
+        by : (gs : List PendingFrame) → InProgress P acts newest row (own ∷ gs) → kinds_held row (given v gs) ≡ kinds_held row (own ∷ gs)
+        by [] (rest, fr, inside) = absurd (let clash : OfExpr (Operation o ps) ≡ OfStatement row.form = fr.0 in grind (arith, clash))
+        by (g ∷ gs) (rest, fr, inside) = given_held row o ps kept g gs v holds inside
+
+    pub operation_stands : held_by o ≡ [] → ((row : Row) (k : Kind) (done : List Kind) → Sees P d newest row → IsOp P row.routine row.around o done k → AreOf acts newest done kept → IsOf acts newest k v)
+        → Stands (own ∷ fs) → Stands (given v fs)
+    operation_stands holds gives h = in_place own fs (given v fs) h (λ row sees p. (operation_progress row (λ k done t ho. gives row k done sees t ho) p, operation_held row holds p))
+
+  plain_holds : (o : Op) → IsPlain o → held_by o ≡ []
+  plain_holds (op.Call c) i = absurd i
+  plain_holds (op.Effect e) i = absurd i
+  plain_holds o i = refl
 
   -- an operation without effect has its value
   pub value_stands : (o : Op) (ps : Exprs) (kept : List Value) (fs : List PendingFrame) (v : Value) → IsPlain o → part_at ps (length kept) ≡ None → value_of o kept d ≡ Gives v
       → Stands (record { node = OfExpr (Operation o ps); kept = kept } ∷ fs) → Stands (given v fs)
   value_stands o ps kept fs v plain full value h =
-      operation_stands o ps kept fs v full
+      operation_stands o ps kept fs v full (plain_holds o plain)
       (λ row k done sees t ho. subst (λ ys. IsOf ys newest k v) same
       (subst (GivesOf d.activations newest k) value (value_sound P d newest row sees o done k kept plain t (subst (λ ys. AreOf ys newest done kept) (sym same) ho)))) h
 
   -- an effect has no value
-  effect_kind : (row : Row) (e : EffectOp) (k : Kind) (done : List Kind) → IsOp P row.routine row.around (op.Effect e) done k → IsOf acts newest k NoValue
+  pub effect_kind : (row : Row) (e : EffectOp) (k : Kind) (done : List Kind) → IsOp P row.routine row.around (op.Effect e) done k → IsOf acts newest k NoValue
   effect_kind row e NoKind done t = tt
   effect_kind row e WordKind done t = absurd t
   effect_kind row e SetKind done t = absurd t
   effect_kind row e (PlaceKind n) done t = absurd t
 
-  pub effect_stands : (e : EffectOp) (ps : Exprs) (kept : List Value) (fs : List PendingFrame) → part_at ps (length kept) ≡ None
+  pub effect_stands : (e : EffectOp) (ps : Exprs) (kept : List Value) (fs : List PendingFrame) → part_at ps (length kept) ≡ None → held_by (op.Effect e) ≡ []
       → Stands (record { node = OfExpr (Operation (op.Effect e) ps); kept = kept } ∷ fs) → Stands (given NoValue fs)
-  effect_stands e ps kept fs full h = operation_stands (op.Effect e) ps kept fs NoValue full (λ row k done sees t ho. effect_kind row e k done t) h
+  effect_stands e ps kept fs full holds h = operation_stands (op.Effect e) ps kept fs NoValue full holds (λ row k done sees t ho. effect_kind row e k done t) h
 
   effect_of_kind : (row : Row) (e : EffectOp) (k : Kind) (done : List Kind) → IsOp P row.routine row.around (op.Effect e) done k → IsEffect e done
   effect_of_kind row e NoKind done t = t
@@ -148,9 +186,9 @@ module _ (P : Program) (program : IsProgram P) (n : ℕ) (cs : List Control) (d 
           let t : IsOp P row.routine row.around (op.Effect e) (fr.5.0 ++ []) fr.2 = subst (λ x. IsOp P row.routine row.around x (fr.5.0 ++ []) fr.2) op_same fr.5.3 in
           (fr.5.0, effect_of_kind row e fr.2 fr.5.0 (subst (λ x. IsOp P row.routine row.around (op.Effect e) x fr.2) (nothing_more fr.5.0) t), fr.5.2)
 
-      framed : (at : AtStatement P acts newest a (record { statement = n; frames = f ∷ fs })) → (f ∷ fs ≡ []) ⊎ ((rest : List Kind) × AreFrames P acts newest at.row rest (f ∷ fs)) → (done : List Kind) × IsEffect e done × AreOf acts newest done kept
+      framed : (at : AtStatement P acts newest a (record { statement = n; frames = f ∷ fs })) → (f ∷ fs ≡ []) ⊎ InProgress P acts newest at.row (f ∷ fs) → (done : List Kind) × IsEffect e done × AreOf acts newest done kept
       framed at (inl x) = absurd (grind (arith, x))
-      framed at (inr (rest, fr)) = typed at.row rest fs fr
+      framed at (inr (rest, fr, inside)) = typed at.row rest fs fr
 
       by : AtStatement P acts newest a (record { statement = n; frames = f ∷ fs }) ⊎ ((n ≡ a.routine) × (f ∷ fs ≡ []) × (a.holds ≡ [])) → (done : List Kind) × IsEffect e done × AreOf acts newest done kept
       by (inl at) = framed at at.frames

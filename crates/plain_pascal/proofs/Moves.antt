@@ -1,5 +1,5 @@
 -- Activations that come and go: what older ones have keeps its place.
-use Rattle.std.proofs.Common.{◌≡◌, ℕ, suc, ◌+◌, ◌-◌, ◌<◌, ◌≤◌, Bool, true, false, List, [], ◌∷◌, ◌++◌, length, Some, sym, ap, ◌∙◌, subst, arith, inl, inr}
+use Rattle.std.proofs.Common.{◌≡◌, ℕ, suc, ◌+◌, ◌-◌, ◌<◌, ◌≤◌, Bool, true, false, List, [], ◌∷◌, ◌++◌, length, Some, refl, sym, ap, ◌∙◌, subst, arith, inl, inr}
 use Rattle.std.specs.Prelude.{◌⊎◌, drop, replicate}
 use Rattle.core_tree.specs.declared.op.Op.TheVariants as op
 use Rattle.core_tree.specs.declared.op.Callee.{Callee}
@@ -11,8 +11,9 @@ use Rattle.plain_pascal.specs.Memory.{from_activation, words_of}
 use Rattle.plain_pascal.specs.Operations.{part}
 use Rattle.plain_pascal.specs.Step.{given, returned_value}
 use Rattle.plain_pascal.specs.Typed.{slots_of, slots_in, result_slots, parameter_slots, IsStatement, IsOp, IsCall, result_kind}
-use Rattle.plain_pascal.specs.Valid.{IsOf, AreOf, ArePlain, LiesIn, Fits, AreFrames, AtStatement, IsActivation, NewestStands, AllWait}
+use Rattle.plain_pascal.specs.Valid.{IsOf, AreOf, ArePlain, LiesIn, Fits, AreFrames, InProgress, AtStatement, IsActivation, NewestStands, AllWait, kinds_held}
 use Rattle.plain_pascal.proofs.Kept.{value_keeps}
+use Rattle.plain_pascal.proofs.Held.{given_held, given_inside}
 
 module _ (P : Program) (acts acts' : List Activation) (bound : ℕ) (keeps : (newest : ℕ) → newest < bound → (p : Place) (n : ℕ) → LiesIn acts newest p n → LiesIn acts' newest p n) where
   of_moved : (newest : ℕ) → newest < bound → (k : Kind) (v : Value) → IsOf acts newest k v → IsOf acts' newest k v
@@ -22,7 +23,7 @@ module _ (P : Program) (acts acts' : List Activation) (bound : ℕ) (keeps : (ne
   of_moved newest less (PlaceKind n) (At p) h = keeps newest less p n h
   of_moved newest less k v h = absurd h
 
-  values_moved : (newest : ℕ) → newest < bound → (ks : List Kind) (vs : List Value) → AreOf acts newest ks vs → AreOf acts' newest ks vs
+  pub values_moved : (newest : ℕ) → newest < bound → (ks : List Kind) (vs : List Value) → AreOf acts newest ks vs → AreOf acts' newest ks vs
   values_moved newest less [] [] h = tt
   values_moved newest less [] (v ∷ vs) h = absurd h
   values_moved newest less (k ∷ ks) [] h = absurd h
@@ -31,7 +32,7 @@ module _ (P : Program) (acts acts' : List Activation) (bound : ℕ) (keeps : (ne
   fits_moved : (newest : ℕ) → newest < bound → (row : Row) (rest : List Kind) (f : PendingFrame) (T : List Kind → Type 0) → Fits P acts newest row rest f T → Fits P acts' newest row rest f T
   fits_moved newest less row rest f T h = (h.0, h.1, values_moved newest less h.0 f.kept h.2, h.3)
 
-  frames_moved : (newest : ℕ) → newest < bound → (row : Row) (rest : List Kind) (fs : List PendingFrame) → AreFrames P acts newest row rest fs → AreFrames P acts' newest row rest fs
+  pub frames_moved : (newest : ℕ) → newest < bound → (row : Row) (rest : List Kind) (fs : List PendingFrame) → AreFrames P acts newest row rest fs → AreFrames P acts' newest row rest fs
   frames_moved newest less row rest [] h = absurd h
   frames_moved newest less row rest (f ∷ []) h = (h.0, fits_moved newest less row rest f (IsStatement P row.routine row.form.op) h.1)
   frames_moved newest less row rest (f ∷ (g ∷ fs)) h = (h.0, h.1, h.2, h.3, h.4, fits_moved newest less row rest f (λ x. IsOp P row.routine row.around h.0 x h.2) h.5, frames_moved newest less row (h.2 ∷ h.3) (g ∷ fs) h.6)
@@ -41,13 +42,13 @@ module _ (P : Program) (acts acts' : List Activation) (bound : ℕ) (keeps : (ne
     row = at.row;
     found = at.found;
     inside = at.inside;
-    held = (at.held.0, at.held.1, values_moved newest less (at.row.around ++ at.held.0) a.holds at.held.2);
+    held = values_moved newest less (kinds_held at.row c.frames) a.holds at.held;
     frames = by at.frames;
   }
     where
-      by : (c.frames ≡ []) ⊎ ((rest : List Kind) × AreFrames P acts newest at.row rest c.frames) → (c.frames ≡ []) ⊎ ((rest : List Kind) × AreFrames P acts' newest at.row rest c.frames)
+      by : (c.frames ≡ []) ⊎ InProgress P acts newest at.row c.frames → (c.frames ≡ []) ⊎ InProgress P acts' newest at.row c.frames
       by (inl h) = inl h
-      by (inr (rest, h)) = inr (rest, frames_moved newest less at.row rest c.frames h)
+      by (inr (rest, h, inside)) = inr (rest, frames_moved newest less at.row rest c.frames h, inside)
 
   pub activation_moved : (a : Activation) (xs : List Activation) → length xs < bound → IsActivation P acts a xs → IsActivation P acts' a xs
   activation_moved a xs less is = record { row = is.row; found = is.found; words = values_moved (length xs) less (slots_of is.row) a.words is.words; parent = is.parent }
@@ -107,7 +108,9 @@ module _ (P : Program) (a : Activation) (b : Activation) (xs : List Activation) 
   pub return_stands : (n : ℕ) (cs : List Control) (c : Callee) (ps : Exprs) (kept : List Value) (fs : List PendingFrame)
       → IsActivation P (a ∷ (b ∷ xs)) a (b ∷ xs) → AllWait P (a ∷ (b ∷ xs)) a.routine (record { statement = n; frames = record { node = OfExpr (Operation (op.Call c) ps); kept = kept } ∷ fs } ∷ cs) (b ∷ xs)
       → NewestStands P (b ∷ xs) (record { statement = n; frames = given (returned_value c.function a.words) fs } ∷ cs) (b ∷ xs)
-  return_stands n cs c ps kept fs is w = (after.0, inl (record { row = after.1.row; found = after.1.found; inside = after.1.inside; held = after.1.held; frames = inr (framed after.1.frames) }), after.3)
+  return_stands n cs c ps kept fs is w =
+      let (p, same_held) = framed after.1.frames in
+      (after.0, inl (record { row = after.1.row; found = after.1.found; inside = after.1.inside; held = subst (λ ks. AreOf (b ∷ xs) (length xs) ks b.holds) (sym same_held) after.1.held; frames = inr p }), after.3)
     where
       f : PendingFrame
       f = record { node = OfExpr (Operation (op.Call c) ps); kept = kept }
@@ -131,6 +134,14 @@ module _ (P : Program) (a : Activation) (b : Activation) (xs : List Activation) 
                 (subst (λ k. IsOf (b ∷ xs) (length xs) k (returned_value c.function a.words)) (sym kind) (returned_kind c r form (a ∷ (b ∷ xs)) (length (b ∷ xs)) has function words (b ∷ xs) (length xs))) fr.6,
           )
 
-      framed : (f ∷ fs ≡ []) ⊎ ((rest : List Kind) × AreFrames P (b ∷ xs) (length xs) after.1.row rest (f ∷ fs)) → (more : List Kind) × AreFrames P (b ∷ xs) (length xs) after.1.row more (given (returned_value c.function a.words) fs)
+      known : (gs : List PendingFrame) → InProgress P (b ∷ xs) (length xs) after.1.row (f ∷ gs)
+          → InProgress P (b ∷ xs) (length xs) after.1.row (given (returned_value c.function a.words) gs) × (kinds_held after.1.row (given (returned_value c.function a.words) gs) ≡ kinds_held after.1.row (f ∷ gs))
+      known [] (rest, fr, inside) = absurd (let clash : OfExpr (Operation (op.Call c) ps) ≡ OfStatement after.1.row.form = fr.0 in grind (arith, clash))
+      known (g ∷ gs) (rest, fr, inside) =
+          let (more, frames) = by rest (g ∷ gs) fr in
+          ((more, frames, given_inside (OfStatement after.1.row.form) f g gs (returned_value c.function a.words) inside), given_held after.1.row (op.Call c) ps kept g gs (returned_value c.function a.words) refl inside)
+
+      framed : (f ∷ fs ≡ []) ⊎ InProgress P (b ∷ xs) (length xs) after.1.row (f ∷ fs)
+          → InProgress P (b ∷ xs) (length xs) after.1.row (given (returned_value c.function a.words) fs) × (kinds_held after.1.row (given (returned_value c.function a.words) fs) ≡ kinds_held after.1.row (f ∷ fs))
       framed (inl e) = absurd (grind (arith, e))
-      framed (inr (rest, fr)) = by rest fs fr
+      framed (inr p) = known fs p

@@ -25,7 +25,7 @@ use Rattle.plain_pascal.proofs.Stage.{IsChain, end_rests, is_called, inside_fram
 use Rattle.plain_pascal.proofs.Chains.{IsChainedRow, IsChained}
 use Rattle.plain_pascal.proofs.Named.{statement_found, routine_found}
 use Rattle.std.specs.List.{AllByRecursion}
-use Rattle.plain_pascal.proofs.Closed.{InRoutine, IsClosedRow, IsClosedBlock, HasEntry, HasEntryListed}
+use Rattle.plain_pascal.proofs.Closed.{gate_row, InRoutine, IsClosedRow, IsClosedBlock, HasEntry, HasEntryListed}
 use Rattle.plain_pascal.proofs.Driven.{AtStatement, AtGate, PlacedIn, IsPlaced, inner_frames, driven_stage, driven_ends}
 
 -- what is to be known of a table
@@ -100,7 +100,7 @@ module _ (P : Table) (m : ℕ) (T : IsTable P m) where
   end_stands n r h older (Left (Inside k) d) fits w =
       (refl, (r, (inl (subst (λ s. HasRow P (slice_index h.row.branches k) s) h.inside ((statement_found P (IsClosedRow P) n h.row T.rows h.found).1 k fits)), w)))
   end_stands n r h older (Left (ToLabel l) d) fits w =
-      (refl, (r, (inl (subst (λ s. HasRow P (label_gate (labels_in (routine_of P h.row.routine)) l) s) h.inside (T.labels n h.row l h.found fits)), w)))
+      (refl, (r, (inl (subst (λ s. HasRow P (label_gate (labels_in (routine_of P h.row.routine)) l) s) h.inside (gate_row P h.row.routine h.row.around (label_gate (labels_in (routine_of P h.row.routine)) l) (T.labels n h.row l h.found fits))), w)))
   end_stands n r h older (Broken e d) fits w = tt
   end_stands n r h older (Waits c vs fs d) fits w =
       subst (λ x. Stands P (called P c x vs n fs older d)) (sym callee.found) (by (nat_le (stack_charges d.activations + stack_charge words) stack_room))

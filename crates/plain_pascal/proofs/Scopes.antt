@@ -36,7 +36,7 @@ abbrev pub AllActivations : Program → List Activation → List Activation → 
 AllActivations P acts [] = Unit {0}
 AllActivations P acts (a ∷ older) = IsActivation P acts a older × AllActivations P acts older
 
-waiting_all : (P : Program) (acts : List Activation) (n : ℕ) (cs : List Control) (older : List Activation) → AllWait P acts n cs older → AllActivations P acts older
+pub waiting_all : (P : Program) (acts : List Activation) (n : ℕ) (cs : List Control) (older : List Activation) → AllWait P acts n cs older → AllActivations P acts older
 waiting_all P acts n [] [] h = tt
 waiting_all P acts n [] (a ∷ older) h = absurd h
 waiting_all P acts n (c ∷ cs) [] h = absurd h

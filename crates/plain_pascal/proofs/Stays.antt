@@ -1,12 +1,12 @@
 -- A stored word, and a passed gate, keep a state in order.
-use Rattle.std.proofs.Common.{◌≡◌, ℕ, suc, ◌-◌, ◌<◌, List, [], ◌∷◌, ◌++◌, length, Some, refl, sym, ap, ◌∙◌, subst, arith, inl, inr}
+use Rattle.std.proofs.Common.{◌≡◌, ℕ, suc, ◌-◌, ◌<◌, List, [], ◌∷◌, length, Some, refl, sym, ap, ◌∙◌, subst, arith, inl, inr}
 use Rattle.std.specs.Prelude.{◌⊎◌, drop}
 use Rattle.plain_pascal.specs.Program.{Kind, Row, RoutineRow, Program, row_of, routine_of}
 use Rattle.plain_pascal.specs.State.{OfStatement, PendingFrame, Activation, Control}
 use Rattle.plain_pascal.specs.Memory.{from_activation}
 use Rattle.plain_pascal.specs.Step.{frame_of}
 use Rattle.plain_pascal.specs.Typed.{slots_of, IsStatement, IsOp}
-use Rattle.plain_pascal.specs.Valid.{AreOf, Fits, AreFrames, AreHeld, AtStatement, HasParent, IsActivation, Waits, NewestStands, AllWait, IsProgram}
+use Rattle.plain_pascal.specs.Valid.{AreOf, Fits, AreFrames, InProgress, AtStatement, HasParent, IsActivation, Waits, NewestStands, AllWait, IsProgram, kinds_held}
 use Rattle.plain_pascal.proofs.Stores.{Alike, AllAlike, same_count, drop_alike, values_alike, slots_alike}
 use Rattle.plain_pascal.proofs.Kept.{gate_keeps}
 
@@ -30,13 +30,13 @@ module _ (P : Program) (acts acts' : List Activation) (alike : AllAlike acts act
     row = at.row;
     found = at.found;
     inside = at.inside ∙ e.routine;
-    held = subst (AreHeld acts' newest at.row) e.holds (at.held.0, at.held.1, values_alike acts acts' alike newest (at.row.around ++ at.held.0) a.holds at.held.2);
+    held = subst (AreOf acts' newest (kinds_held at.row c.frames)) e.holds (values_alike acts acts' alike newest (kinds_held at.row c.frames) a.holds at.held);
     frames = by at.frames;
   }
     where
-      by : (c.frames ≡ []) ⊎ ((rest : List Kind) × AreFrames P acts newest at.row rest c.frames) → (c.frames ≡ []) ⊎ ((rest : List Kind) × AreFrames P acts' newest at.row rest c.frames)
+      by : (c.frames ≡ []) ⊎ InProgress P acts newest at.row c.frames → (c.frames ≡ []) ⊎ InProgress P acts' newest at.row c.frames
       by (inl h) = inl h
-      by (inr (rest, h)) = inr (rest, frames_alike newest at.row rest c.frames h)
+      by (inr (rest, h, inside)) = inr (rest, frames_alike newest at.row rest c.frames h, inside)
 
   parent_alike : (r : RoutineRow) (a b : Activation) (xs ys : List Activation) → Alike a b → AllAlike xs ys → HasParent r a xs → HasParent r b ys
   parent_alike r a b [] [] e h p = (p.0, sym e.routine ∙ p.1)
@@ -51,7 +51,7 @@ module _ (P : Program) (acts acts' : List Activation) (alike : AllAlike acts act
       let (c, more, at, routine) = same_newest (from_activation (x ∷ xs) a.static_link) (from_activation (y ∷ ys) b.static_link) p.1 p.2 r.owner tails p.3 p.4 in
       (less, c, more, at, routine)
 
-  activation_alike : (a b : Activation) (xs ys : List Activation) → Alike a b → AllAlike xs ys → IsActivation P acts a xs → IsActivation P acts' b ys
+  pub activation_alike : (a b : Activation) (xs ys : List Activation) → Alike a b → AllAlike xs ys → IsActivation P acts a xs → IsActivation P acts' b ys
   activation_alike a b xs ys e h is = record {
     row = is.row;
     found = ap (routine_of P) (sym e.routine) ∙ is.found;
@@ -59,7 +59,7 @@ module _ (P : Program) (acts acts' : List Activation) (alike : AllAlike acts act
     parent = parent_alike is.row a b xs ys e h is.parent;
   }
 
-  waits_alike : (n m : ℕ) (cs : List Control) (xs ys : List Activation) → n ≡ m → AllAlike xs ys → AllWait P acts n cs xs → AllWait P acts' m cs ys
+  pub waits_alike : (n m : ℕ) (cs : List Control) (xs ys : List Activation) → n ≡ m → AllAlike xs ys → AllWait P acts n cs xs → AllWait P acts' m cs ys
   waits_alike n m [] [] [] e h w = tt
   waits_alike n m [] [] (y ∷ ys) e h w = absurd h
   waits_alike n m [] (x ∷ xs) ys e h w = absurd w
@@ -99,8 +99,8 @@ gate_stands P program n row cs acts a xs found at is waits =
         row = row;
         found = found;
         inside = sym (ap (λ r. r.routine) same) ∙ at.inside;
-        held = subst (λ r. AreHeld acts (length xs) r a.holds) same at.held;
-        frames = inr ((program.forms n row found).kinds, gate_keeps P acts (length xs) row (program.forms n row found));
+        held = subst (λ r. AreOf acts (length xs) (kinds_held r (frame_of (OfStatement row.form) ∷ [])) a.holds) same at.held;
+        frames = inr ((program.forms n row found).kinds, gate_keeps P acts (length xs) row (program.forms n row found), refl);
       }),
       waits,
     )

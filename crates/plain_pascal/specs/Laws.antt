@@ -9,7 +9,7 @@ use Rattle.core_tree.specs.declared.op.Storage.{Storage}
 use Rattle.plain_pascal.specs.Statements.{assigned}
 use Rattle.plain_pascal.specs.Step.{small_step}
 use Rattle.plain_pascal.specs.Typed.{stored_kind, stored_words}
-use Rattle.plain_pascal.specs.Valid.{IsData, IsInside, IsOf, IsProgram, IsWellFormed, LiesIn, NewestStands}
+use Rattle.plain_pascal.specs.Valid.{IsData, IsOf, IsProgram, IsTyped, IsWellFormed, LiesIn, NewestStands}
 use Rattle.plain_pascal.specs.Run.{Marks, cleared, continued, driven, fresh, rests, run_of}
 use Rattle.plain_pascal.specs.Blocks.{blocks_of, pascal}
 use Rattle.plain_pascal.specs.Stages.{stage_of}
@@ -54,10 +54,17 @@ NextRunsAreStretches = (x : Routine) (m : ℕ) → IsResolved x m → (marks : M
     → stage_of (run_of (program_of x) marks (suc k) (record { status = Halted; control = c ∷ older; data_now = d })).last
     ≡ drive pascal (blocks_of (program_of x)) (suc m) (pauses_of marks) (suc k) (stage_of (record { status = Halted; control = c ∷ older; data_now = cleared d }))
 
--- a step that passes a gate, gives a part a frame, works out a value, reads, writes, calls a routine or leaves one keeps a
--- state in order
-abbrev pub InnerStepsKeep : Type 0
-InnerStepsKeep = (P : Program) → IsProgram P → (s : State) → IsWellFormed P s → s.status ≡ Halted → IsInside s.control → IsWellFormed P (small_step P s)
+-- each step keeps a state in order
+abbrev pub StepsKeep : Type 0
+StepsKeep = (P : Program) → IsProgram P → (s : State) → IsWellFormed P s → IsWellFormed P (small_step P s)
+
+-- a run keeps a state in order, from the start of the program on
+abbrev pub RunsKeep : Type 0
+RunsKeep = (P : Program) → IsProgram P → (marks : Marks) (k : ℕ) (s : State) → IsWellFormed P s → IsWellFormed P (run_of P marks k s).last
+
+-- a resolved program with operations on parts of their kinds is in order
+abbrev pub ResolvedOrder : Type 0
+ResolvedOrder = (x : Routine) (m : ℕ) → IsResolved x m → IsTyped (program_of x) → IsProgram (program_of x)
 
 -- an assignment to a part that lies inside what it names keeps the data and all activations in order
 abbrev pub AssignmentsKeep : Type 0

@@ -14,6 +14,7 @@ use Rattle.plain_pascal.specs.Step.{label_gate, labels_in}
 use Rattle.plain_pascal.specs.Run.{steps_limit}
 use Rattle.plain_pascal.specs.Evaluation.{part_ticks}
 use Rattle.plain_pascal.specs.Blocks.{has_way, parts_call}
+use Rattle.plain_pascal.specs.Valid.{HasGate}
 
 -- a compound statement and a `repeat` begin at the first statement in them, and a branch is there
 abbrev pub begins_within : Option Form → StatementOp → Bool
@@ -76,9 +77,10 @@ module _ (P : Program) where
   abbrev pub IsGateOf : ℕ → ℕ → Type 0
   IsGateOf n r = HasRow n r ⊎ ((n ≡ r) × HasRoutine r)
 
-  -- each label of a goto stands in its routine, and what is called is a routine: this is for the resolver to know
+  -- each label of a goto stands in its routine, in no other `for` and `with` statements than the goto does (6.8.2.4), and
+  -- what is called is a routine: this is for the resolver to know
   abbrev pub AreLabelled : Type 0
-  AreLabelled = (n : ℕ) (row : Row) (l : ℕ) → row_of P n ≡ Some row → has_way row.form.op (Label l) ≡ true → HasRow (label_gate (labels_in (routine_of P row.routine)) l) row.routine
+  AreLabelled = (n : ℕ) (row : Row) (l : ℕ) → row_of P n ≡ Some row → has_way row.form.op (Label l) ≡ true → HasGate P row.routine row.around (label_gate (labels_in (routine_of P row.routine)) l)
 
   abbrev pub AreDeclared : Type 0
   AreDeclared = (n : ℕ) (row : Row) (c : Name) → row_of P n ≡ Some row → parts_call row.form.parts c.0 ≡ true → HasRoutine c.0

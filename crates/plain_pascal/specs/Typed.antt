@@ -172,7 +172,7 @@ IsWritten (written.String n) k = ⊥
 IsWritten what k = k ≡ WordKind
 
 abbrev pub IsEffect : EffectOp → List Kind → Type 0
-IsEffect (effect.Hold number words) (PlaceKind whole ∷ []) = (1 ≤ number) × (words ≤ whole)
+IsEffect (effect.Hold number words) (PlaceKind whole ∷ []) = words ≤ whole
 IsEffect (effect.ReadInteger first last) (PlaceKind whole ∷ []) = (1 ≤ whole) × (int_le last (pos 32767) ≡ true)
 IsEffect (effect.ReadChar first last) (PlaceKind whole ∷ []) = (1 ≤ whole) × (int_le last (pos 32767) ≡ true)
 IsEffect (effect.Write what false) (k ∷ []) = IsWritten what k
@@ -233,9 +233,16 @@ IsStatement P n (stmt.New words) (PlaceKind whole ∷ []) = 1 ≤ whole
 IsStatement P n (stmt.Dispose words) (WordKind ∷ []) = Unit {0}
 IsStatement P n o ks = ⊥
 
+-- the holds that the parts take have the numbers after that of the last one before
+abbrev pub AreNumbered : ℕ → Exprs → Type 0
+AreNumbered last NoMore = Unit {0}
+AreNumbered last (And (Operation (op.Effect (effect.Hold number words)) ps) es) = (number ≡ suc last) × AreNumbered (suc last) es
+AreNumbered last (And e es) = AreNumbered last es
+
 -- a statement's form, where it stands
 pub record IsForm (P : Program) (row : Row) : Type 0 where
   pub kinds : List Kind
   pub parts : AreExprs P row.routine row.around row.form.parts kinds
   pub statement : IsStatement P row.routine row.form.op kinds
   pub holds : row.form.holds ≡ length row.around
+  pub numbered : AreNumbered row.form.holds row.form.parts

@@ -1,15 +1,17 @@
 -- The states that a program can be in: each activation is one of a routine of the program, stands at a statement of it,
 -- and has the words, holds and kept values of that place.
-use Rattle.std.specs.Prelude.{◌≡◌, ℕ, ◌+◌, ◌≤◌, ◌<◌, List, [], ◌∷◌, ◌++◌, length, Option, Some, None, slice_get, ◌⊎◌}
+use Rattle.std.specs.Prelude.{◌≡◌, ℕ, zero, suc, ◌+◌, ◌≤◌, ◌<◌, true, List, [], ◌∷◌, ◌++◌, length, Some, None, slice_get, slice_index, ◌⊎◌}
 use Rattle.std.specs.List.{AllByRecursion}
+use Rattle.dice_base.specs.declared.link.LinkTo.TheVariants.{Child, Label}
 use Rattle.core_tree.specs.declared.op.Op.{Op}
 use Rattle.core_tree.specs.declared.op.Op.TheVariants as op
-use Rattle.core_tree.specs.declared.op.EffectOp.TheVariants as effect
-use Rattle.core_tree.specs.Plain.{Expr, Operation, Exprs, part_at}
-use Rattle.plain_pascal.specs.Program.{Kind, NoKind, WordKind, SetKind, PlaceKind, Row, RoutineRow, Program, row_of, routine_of}
+use Rattle.core_tree.specs.Plain.{Operation, Exprs, NoMore, And, part_at, Form}
+use Rattle.core_tree.specs.Control.{Continuation, ToGate, ToStep, ToEnd, ToLeave, ToFinish}
+use Rattle.plain_pascal.specs.Program.{Kind, NoKind, WordKind, SetKind, PlaceKind, Row, RoutineRow, Program, held_by, held_inside, row_of, routine_of}
 use Rattle.plain_pascal.specs.State.{Status, NotStarted, Halted, Place, Global, Local, Heap, Literal, Value, Word, Members, At, NoValue, Node, OfStatement, OfExpr, PendingFrame, Activation, Cell, Data, Control, State, globals_count, heap_count}
 use Rattle.plain_pascal.specs.Memory.{from_activation, words_of}
-use Rattle.plain_pascal.specs.Step.{stack_charges, stack_room, parts_of}
+use Rattle.plain_pascal.specs.Step.{stack_charges, stack_room, parts_of, label_gate, labels_in}
+use Rattle.plain_pascal.specs.Blocks.{AreInside, has_way}
 use Rattle.plain_pascal.specs.Typed.{slots_of, AreExprs, IsOp, IsStatement, IsForm}
 
 abbrev pub IsWord : ℕ → Type 0
@@ -65,17 +67,33 @@ abbrev pub Waits : List PendingFrame → ℕ → Type 0
 Waits [] n = ⊥
 Waits (f ∷ fs) n = CallsIn f.node n (length f.kept)
 
--- the holds are those around the statement, and those that a `with` in progress has found so far
-abbrev pub AreHeld : List Activation → ℕ → Row → List Value → Type 0
-AreHeld acts newest row vs = (found : List Kind) × (length vs ≡ length row.around + length found) × AreOf acts newest (row.around ++ found) vs
+-- the parts of a statement that are done
+abbrev pub parts_done : List PendingFrame → ℕ
+parts_done [] = 0
+parts_done (f ∷ []) = length f.kept
+parts_done (f ∷ (g ∷ fs)) = parts_done (g ∷ fs)
+
+-- what the first parts of a statement hold
+abbrev pub held_by_first : ℕ → Exprs → List Kind
+held_by_first zero es = []
+held_by_first (suc k) NoMore = []
+held_by_first (suc k) (And (Operation o ps) es) = held_by o ++ held_by_first k es
+
+-- what is held at a statement: the holds around it, and those of its parts that are done
+abbrev pub kinds_held : Row → List PendingFrame → List Kind
+kinds_held row fs = row.around ++ held_by_first (parts_done fs) row.form.parts
+
+-- a statement is in progress: each frame is of the next part of the one outside it
+abbrev pub InProgress : Program → List Activation → ℕ → Row → List PendingFrame → Type 0
+InProgress P acts newest row fs = (rest : List Kind) × AreFrames P acts newest row rest fs × AreInside (OfStatement row.form) fs
 
 -- a statement of the routine, in progress or not
 pub record AtStatement (P : Program) (acts : List Activation) (newest : ℕ) (a : Activation) (c : Control) : Type 0 where
   pub row : Row
   pub found : row_of P c.statement ≡ Some row
   pub inside : row.routine ≡ a.routine
-  pub held : AreHeld acts newest row a.holds
-  pub frames : (c.frames ≡ []) ⊎ ((rest : List Kind) × AreFrames P acts newest row rest c.frames)
+  pub held : AreOf acts newest (kinds_held row c.frames) a.holds
+  pub frames : (c.frames ≡ []) ⊎ InProgress P acts newest row c.frames
 
 -- the static parent is an older activation of the owner, and the oldest activation is the program's
 abbrev pub HasParent : RoutineRow → Activation → List Activation → Type 0
@@ -131,34 +149,52 @@ pub record IsWellFormed (P : Program) (s : State) : Type 0 where
   pub data_good : IsData s.data_now
   pub stands : StandsBy s.status P s
 
+-- ---- programs
+
 -- a routine's body begins at a statement of its own, in no holds
 abbrev pub HasEntry : Program → RoutineRow → Type 0
 HasEntry P r = (row : Row) × (row_of P r.entry ≡ Some row) × (row.routine ≡ r.name) × (row.around ≡ [])
 
--- a program whose statements are in order, and in which a routine's name is no statement's
+-- a statement of the routine, in which no more is held than a front of this
+pub record HasGate (P : Program) (routine : ℕ) (held : List Kind) (n : ℕ) : Type 0 where
+  pub row : Row
+  pub found : row_of P n ≡ Some row
+  pub inside : row.routine ≡ routine
+  pub ended : List Kind
+  pub around : held ≡ row.around ++ ended
+
+-- a statement of the routine with this form
+pub record HasForm (P : Program) (routine : ℕ) (form : Form) (n : ℕ) : Type 0 where
+  pub row : Row
+  pub found : row_of P n ≡ Some row
+  pub inside : row.routine ≡ routine
+  pub is_form : row.form ≡ form
+
+-- where control goes on from a statement of the routine, in these holds
+abbrev pub GoesOn : Program → ℕ → List Kind → Continuation → Type 0
+GoesOn P r held (ToGate n) = HasGate P r held n
+GoesOn P r held (ToStep n form body otherwise) = HasForm P r form n × HasGate P r held body × GoesOn P r held otherwise
+GoesOn P r held (ToEnd n otherwise) = GoesOn P r held otherwise
+GoesOn P r held (ToLeave n) = n ≡ r
+GoesOn P r held ToFinish = Unit {0}
+
+-- the ways out of a statement lead to gates of its routine: those in it in what it holds besides, the others in no more than
+-- is held around it
+pub record HasWays (P : Program) (row : Row) : Type 0 where
+  pub inner : (k : ℕ) → has_way row.form.op (Child k) ≡ true → HasGate P row.routine (row.around ++ held_inside row.form.op row.form.parts) (slice_index row.branches k)
+  pub labelled : (l : ℕ) → has_way row.form.op (Label l) ≡ true → HasGate P row.routine row.around (label_gate (labels_in (routine_of P row.routine)) l)
+  pub behind : GoesOn P row.routine row.around row.continuation
+
+-- a program whose statements have operations with parts of their kinds; 0 is no name
+pub record IsTyped (P : Program) : Type 0 where
+  pub forms : (n : ℕ) (row : Row) → row_of P n ≡ Some row → IsForm P row
+  pub no_zero : routine_of P 0 ≡ None
+
+-- a program whose statements are in order, and in which a routine's name is no statement's; its own block has the name 1
 pub record IsProgram (P : Program) : Type 0 where
+  pub main : (r : RoutineRow) × (routine_of P 1 ≡ Some r) × (r.form ≡ None) × (r.owner ≡ 0)
   pub entries : (n : ℕ) (r : RoutineRow) → routine_of P n ≡ Some r → HasEntry P r
   pub no_zero : routine_of P 0 ≡ None
   pub bare : (n : ℕ) (r : RoutineRow) → routine_of P n ≡ Some r → row_of P n ≡ None
   pub forms : (n : ℕ) (row : Row) → row_of P n ≡ Some row → IsForm P row
-
--- ---- steps inside a statement
-
--- any operation but one that takes a hold
-abbrev pub IsInner : Op → Type 0
-IsInner (op.Effect (effect.Hold number words)) = ⊥
-IsInner o = Unit {0}
-
-abbrev pub IsInnerNode : Option Expr → Node → Type 0
-IsInnerNode (Some e) x = Unit {0}
-IsInnerNode None (OfExpr (Operation o ps)) = IsInner o
-IsInnerNode None (OfStatement f) = ⊥
-
--- the next step passes a gate, gives a part a frame, or carries out such an operation
-abbrev pub AreInner : List PendingFrame → Type 0
-AreInner [] = Unit {0}
-AreInner (f ∷ fs) = IsInnerNode (part_at (parts_of f.node) (length f.kept)) f.node
-
-abbrev pub IsInside : List Control → Type 0
-IsInside [] = ⊥
-IsInside (c ∷ older) = AreInner c.frames
+  pub ways : (n : ℕ) (row : Row) → row_of P n ≡ Some row → HasWays P row

@@ -1,8 +1,16 @@
-use Rattle.plain_pascal.proofs.Inner.{assignments_keep, inner_steps_keep}
+use Rattle.plain_pascal.proofs.Steps.{assignments_keep, steps_keep}
+use Rattle.plain_pascal.proofs.Running.{runs_keep}
+use Rattle.plain_pascal.proofs.Surround.{resolved_order}
 use Rattle.plain_pascal.proofs.laws.steps_keep.Goals as goal
 
-pub returns-clause-inner : goal.returns-clause-inner
-returns-clause-inner c = inner_steps_keep
+pub returns-clause-steps : goal.returns-clause-steps
+returns-clause-steps c = steps_keep
+
+pub returns-clause-runs : goal.returns-clause-runs
+returns-clause-runs c = runs_keep
+
+pub returns-clause-order : goal.returns-clause-order
+returns-clause-order c = resolved_order
 
 pub returns-clause-assignments : goal.returns-clause-assignments
 returns-clause-assignments c = assignments_keep

@@ -1,4 +1,4 @@
--- Steps inside a statement, calls and returns keep a state in order.
+-- Each step keeps a state in order.
 use Rattle.std.proofs.Common.{◌≡◌, ℕ, zero, suc, ◌+◌, ◌≤◌, Bool, true, false, nat_le, List, [], ◌∷◌, length, Option, Some, None, refl, sym, ap, ◌∙◌, subst, arith, inl, inr}
 use Rattle.std.specs.Prelude.{◌⊎◌, ℤ, pos, int_le, if◌then◌else◌, take, drop}
 use Rattle.std.proofs.lemmas.Bool.Decides.{nat_tests}
@@ -6,13 +6,13 @@ use Rattle.core_tree.specs.declared.op.Op.{Op}
 use Rattle.core_tree.specs.declared.op.Op.TheVariants as op
 use Rattle.core_tree.specs.declared.op.Callee.{Callee}
 use Rattle.core_tree.specs.Plain.{Expr, Operation, Exprs, part_at}
-use Rattle.plain_pascal.specs.Program.{Kind, WordKind, PlaceKind, Program, RoutineRow, row_of, routine_of}
+use Rattle.plain_pascal.specs.Program.{Kind, WordKind, PlaceKind, Program, RoutineRow, held_by, row_of, routine_of}
 use Rattle.plain_pascal.specs.State.{Status, NotStarted, Halted, Ended, Failed, Place, Value, Word, Members, At, NoValue, Node, OfStatement, OfExpr, PendingFrame, Activation, Data, Control}
 use Rattle.plain_pascal.specs.Integers.{Result, Gives, Fails, within, word_of}
 use Rattle.plain_pascal.specs.Operations.{value_of, part, first_place, second_number, second_word}
 use Rattle.plain_pascal.specs.Step.{going, refused, held_in, at_gate, called, completed, delivered, effected, evaluated, frame_of, frame_words, gate_passed, given, newest_words, parent_of, parts_of, returned, returned_frames, returned_in, small_step, stack_charge, stack_charges, stack_room, stepped}
-use Rattle.plain_pascal.specs.Valid.{AreOf, IsInner, IsWord, LiesIn, AtStatement, IsActivation, AllWait, NewestStands, IsData, IsWellFormed, IsProgram, IsInnerNode, AreInner, IsInside}
-use Rattle.plain_pascal.specs.Laws.{InnerStepsKeep, AssignmentsKeep}
+use Rattle.plain_pascal.specs.Valid.{AreOf, IsWord, LiesIn, AtStatement, IsActivation, AllWait, NewestStands, IsData, IsWellFormed, IsProgram}
+use Rattle.plain_pascal.specs.Laws.{StepsKeep, AssignmentsKeep}
 use Rattle.plain_pascal.proofs.Evaluates.{IsPlain}
 use Rattle.plain_pascal.proofs.Keeps.{part_stands, value_stands, effect_stands, effect_typed}
 use Rattle.plain_pascal.proofs.Inputs.{LeavesBytes, integer_bytes, character_bytes}
@@ -28,6 +28,8 @@ use Rattle.core_tree.specs.declared.op.EffectOp.{EffectOp}
 use Rattle.core_tree.specs.declared.op.EffectOp.TheVariants as effect
 use Rattle.core_tree.specs.declared.op.Written.{Written}
 use Rattle.plain_pascal.proofs.CallKeeps.{call_stands}
+use Rattle.plain_pascal.proofs.Holds.{hold_well}
+use Rattle.plain_pascal.proofs.Leaves.{statement_well}
 use Rattle.plain_pascal.proofs.Moves.{return_stands}
 
 abbrev no_values : List Value
@@ -130,39 +132,40 @@ module _ (P : Program) (program : IsProgram P) (d : Data) (good : IsData d) wher
     first_lies whole (Members ws ∷ vs) h = absurd h.0
     first_lies whole (NoValue ∷ vs) h = absurd h.0
 
-    effect_by : (e : EffectOp) (kept : List Value) (fs : List PendingFrame) (done : List Kind) → IsInner (op.Effect e) → IsEffect e done → AreOf (a ∷ xs) (length xs) done kept → Stood (given NoValue fs) → IsWellFormed P (effected (effect_of e kept d) n fs cs)
-    effect_by (effect.Hold number words) kept fs done i t ho h = absurd i
-    effect_by (effect.Write what wide) kept fs done i t ho h = write_well wide what kept fs h
-    effect_by (effect.ReadInteger first last) kept fs (PlaceKind whole ∷ []) i t ho h = read_well first last (first_place kept) whole fs (first_lies whole kept ho) t.0 t.1 h (integer_read d.input) (integer_bytes d.input good.input)
-    effect_by (effect.ReadInteger first last) kept fs done i t ho h = absurd t
-    effect_by (effect.ReadChar first last) kept fs (PlaceKind whole ∷ []) i t ho h = read_well first last (first_place kept) whole fs (first_lies whole kept ho) t.0 t.1 h (character_read d.input) (character_bytes d.input good.input)
-    effect_by (effect.ReadChar first last) kept fs done i t ho h = absurd t
+    effect_by : (e : EffectOp) (ps : Exprs) (kept : List Value) (fs : List PendingFrame) (done : List Kind) → part_at ps (length kept) ≡ None → Stand (record { node = OfExpr (Operation (op.Effect e) ps); kept = kept } ∷ fs)
+        → IsEffect e done → AreOf (a ∷ xs) (length xs) done kept → (held_by (op.Effect e) ≡ [] → Stood (given NoValue fs)) → IsWellFormed P (effected (effect_of e kept d) n fs cs)
+    effect_by (effect.Hold number words) ps kept fs done full h t ho next = hold_well P program d good a xs same n cs number words ps kept fs full h
+    effect_by (effect.Write what wide) ps kept fs done full h t ho next = write_well wide what kept fs (next refl)
+    effect_by (effect.ReadInteger first last) ps kept fs (PlaceKind whole ∷ []) full h t ho next = read_well first last (first_place kept) whole fs (first_lies whole kept ho) t.0 t.1 (next refl) (integer_read d.input) (integer_bytes d.input good.input)
+    effect_by (effect.ReadInteger first last) ps kept fs done full h t ho next = absurd t
+    effect_by (effect.ReadChar first last) ps kept fs (PlaceKind whole ∷ []) full h t ho next = read_well first last (first_place kept) whole fs (first_lies whole kept ho) t.0 t.1 (next refl) (character_read d.input) (character_bytes d.input good.input)
+    effect_by (effect.ReadChar first last) ps kept fs done full h t ho next = absurd t
 
-    effect_well : (e : EffectOp) (ps : Exprs) (kept : List Value) (fs : List PendingFrame) → IsInner (op.Effect e) → part_at ps (length kept) ≡ None → Stand (record { node = OfExpr (Operation (op.Effect e) ps); kept = kept } ∷ fs)
+    effect_well : (e : EffectOp) (ps : Exprs) (kept : List Value) (fs : List PendingFrame) → part_at ps (length kept) ≡ None → Stand (record { node = OfExpr (Operation (op.Effect e) ps); kept = kept } ∷ fs)
         → IsWellFormed P (effected (effect_of e kept d) n fs cs)
-    effect_well e ps kept fs i full h =
+    effect_well e ps kept fs full h =
         let (done, t, ho) = effect_typed P program n cs d good a xs same e ps kept fs full h in
-        effect_by e kept fs done i t ho (subst (λ ys. NewestStands P ys (record { statement = n; frames = given NoValue fs } ∷ cs) ys) (sym same) (effect_stands P program n cs d good a xs same e ps kept fs full h))
+        effect_by e ps kept fs done full h t ho (λ none. subst (λ ys. NewestStands P ys (record { statement = n; frames = given NoValue fs } ∷ cs) ys) (sym same) (effect_stands P program n cs d good a xs same e ps kept fs full none h))
 
-    operation_well : (x : Node) (kept : List Value) (fs : List PendingFrame) → part_at (parts_of x) (length kept) ≡ None → Stand (record { node = x; kept = kept } ∷ fs) → IsInnerNode None x
+    operation_well : (x : Node) (kept : List Value) (fs : List PendingFrame) → part_at (parts_of x) (length kept) ≡ None → Stand (record { node = x; kept = kept } ∷ fs)
         → IsWellFormed P (completed P x (record { node = x; kept = kept }) n fs cs d)
-    operation_well (OfStatement f) kept fs full h i = absurd i
-    operation_well (OfExpr (Operation (op.Effect e) ps)) kept fs full h i = effect_well e ps kept fs i full h
-    operation_well (OfExpr (Operation (op.Call c) ps)) kept fs full h i = call_well c ps kept fs full h
-    operation_well (OfExpr (Operation (op.Place p) ps)) kept fs full h i = value_well (op.Place p) ps kept fs tt full h
-    operation_well (OfExpr (Operation (op.Word w) ps)) kept fs full h i = value_well (op.Word w) ps kept fs tt full h
-    operation_well (OfExpr (Operation (op.Set s) ps)) kept fs full h i = value_well (op.Set s) ps kept fs tt full h
-    operation_well (OfExpr (Operation (op.Literal t) ps)) kept fs full h i = value_well (op.Literal t) ps kept fs tt full h
-    operation_well (OfExpr (Operation op.Structure ps)) kept fs full h i = value_well op.Structure ps kept fs tt full h
-    operation_well (OfExpr (Operation (op.Argument to) ps)) kept fs full h i = value_well (op.Argument to) ps kept fs tt full h
-    operation_well (OfExpr (Operation op.ActualVariable ps)) kept fs full h i = value_well op.ActualVariable ps kept fs tt full h
+    operation_well (OfStatement f) kept fs full h = statement_well P program d good a xs same n cs f kept fs full h
+    operation_well (OfExpr (Operation (op.Effect e) ps)) kept fs full h = effect_well e ps kept fs full h
+    operation_well (OfExpr (Operation (op.Call c) ps)) kept fs full h = call_well c ps kept fs full h
+    operation_well (OfExpr (Operation (op.Place p) ps)) kept fs full h = value_well (op.Place p) ps kept fs tt full h
+    operation_well (OfExpr (Operation (op.Word w) ps)) kept fs full h = value_well (op.Word w) ps kept fs tt full h
+    operation_well (OfExpr (Operation (op.Set s) ps)) kept fs full h = value_well (op.Set s) ps kept fs tt full h
+    operation_well (OfExpr (Operation (op.Literal t) ps)) kept fs full h = value_well (op.Literal t) ps kept fs tt full h
+    operation_well (OfExpr (Operation op.Structure ps)) kept fs full h = value_well op.Structure ps kept fs tt full h
+    operation_well (OfExpr (Operation (op.Argument to) ps)) kept fs full h = value_well (op.Argument to) ps kept fs tt full h
+    operation_well (OfExpr (Operation op.ActualVariable ps)) kept fs full h = value_well op.ActualVariable ps kept fs tt full h
 
-    frame_well : (f : PendingFrame) (fs : List PendingFrame) → Stand (f ∷ fs) → AreInner (f ∷ fs) → IsWellFormed P (stepped P n (f ∷ fs) cs d)
-    frame_well f fs h i = by (part_at (parts_of f.node) (length f.kept)) refl i
+    frame_well : (f : PendingFrame) (fs : List PendingFrame) → Stand (f ∷ fs) → IsWellFormed P (stepped P n (f ∷ fs) cs d)
+    frame_well f fs h = by (part_at (parts_of f.node) (length f.kept)) refl
       where
-        by : (x : Option Expr) → part_at (parts_of f.node) (length f.kept) ≡ x → IsInnerNode x f.node → IsWellFormed P (evaluated P x f n fs cs d)
-        by (Some e) found i = well n (frame_of (OfExpr e) ∷ (f ∷ fs)) cs (a ∷ xs) same (part_stands P program n cs d good a xs same f fs e found h)
-        by None found i = operation_well f.node f.kept fs found h i
+        by : (x : Option Expr) → part_at (parts_of f.node) (length f.kept) ≡ x → IsWellFormed P (evaluated P x f n fs cs d)
+        by (Some e) found = well n (frame_of (OfExpr e) ∷ (f ∷ fs)) cs (a ∷ xs) same (part_stands P program n cs d good a xs same f fs e found h)
+        by None found = operation_well f.node f.kept fs found h
 
   -- ---- gates
 
@@ -206,21 +209,21 @@ module _ (P : Program) (program : IsProgram P) (d : Data) (good : IsData d) wher
 
   -- ---- one step
 
-  step_well : (n : ℕ) (fs : List PendingFrame) (cs : List Control) (acts : List Activation) → d.activations ≡ acts → NewestStands P acts (record { statement = n; frames = fs } ∷ cs) acts → AreInner fs → IsWellFormed P (stepped P n fs cs d)
-  step_well n fs cs [] same h i = absurd h
-  step_well n [] cs (a ∷ xs) same h i = gate_well a xs same n cs h
-  step_well n (f ∷ fs) cs (a ∷ xs) same h i = frame_well a xs same n cs f fs h i
+  step_well : (n : ℕ) (fs : List PendingFrame) (cs : List Control) (acts : List Activation) → d.activations ≡ acts → NewestStands P acts (record { statement = n; frames = fs } ∷ cs) acts → IsWellFormed P (stepped P n fs cs d)
+  step_well n fs cs [] same h = absurd h
+  step_well n [] cs (a ∷ xs) same h = gate_well a xs same n cs h
+  step_well n (f ∷ fs) cs (a ∷ xs) same h = frame_well a xs same n cs f fs h
 
-inner_by : (P : Program) → IsProgram P → (st : Status) (control : List Control) (d : Data) → IsWellFormed P (record { status = st; control = control; data_now = d }) → st ≡ Halted → IsInside control
+step_by : (P : Program) → IsProgram P → (st : Status) (control : List Control) (d : Data) → IsWellFormed P (record { status = st; control = control; data_now = d })
     → IsWellFormed P (small_step P (record { status = st; control = control; data_now = d }))
-inner_by P program Halted [] d w e i = absurd i
-inner_by P program Halted (c ∷ cs) d w e i = step_well P program d w.data_good c.statement c.frames cs d.activations refl w.stands i
-inner_by P program NotStarted control d w e i = absurd (grind (arith, e))
-inner_by P program Ended control d w e i = absurd (grind (arith, e))
-inner_by P program (Failed x n) control d w e i = absurd (grind (arith, e))
+step_by P program Halted [] d w = w
+step_by P program Halted (c ∷ cs) d w = step_well P program d w.data_good c.statement c.frames cs d.activations refl w.stands
+step_by P program NotStarted control d w = w
+step_by P program Ended control d w = w
+step_by P program (Failed x n) control d w = w
 
-pub inner_steps_keep : InnerStepsKeep
-inner_steps_keep P program s w e i = inner_by P program s.status s.control s.data_now w e i
+pub steps_keep : StepsKeep
+steps_keep P program s w = step_by P program s.status s.control s.data_now w
 
 pub assignments_keep : AssignmentsKeep
 assignments_keep P to whole newest d p v cs good le h is stands =
