@@ -1,5 +1,7 @@
 pub mod Arguments
 mod Examples
 pub mod Keeping
+pub mod Layers
 pub mod Opened
+pub mod Pushing
 pub mod Targets
