@@ -1,5 +1,5 @@
 -- Arguments by their parts, over the tree.
-use Rattle.std.proofs.Common.{IfOk, Result, ◌≡◌, ◌<◌, Bool, true, false, List, [], ◌∷◌, ◌++◌, ℕ, zero, suc, ◌+◌, length, map, drop, get_or, Option, Some, None, is_some, option_map, refl, ap, sym, ◌∙◌, arith}
+use Rattle.std.proofs.Common.{IfOk, Result, ◌≡◌, ◌<◌, true, false, List, [], ◌∷◌, ◌++◌, ℕ, zero, suc, ◌+◌, length, map, drop, get_or, Option, Some, None, is_some, option_map, refl, ap, sym, ◌∙◌, arith}
 use Rattle.pascal_tree.specs.declared.expr.Arg.{Arg, out-Arg, map-Arg}
 use Rattle.pascal_tree.specs.declared.expr.Expr.{Expr}
 use Rattle.pascal_tree.specs.declared.expr.SumExpr.{SumExpr}
@@ -20,7 +20,6 @@ use Rattle.resolve_expr.specs.declared.context.Context.{Context}
 use Rattle.resolve_expr.specs.Nodes.{Resolved, Accessed, Argument, place_or_lost}
 use Rattle.resolve_expr.specs.Expressions as nodes
 use Rattle.pascal_tree.specs.declared.stmt.Arm.{Arm, out-Arm}
-use Rattle.pascal_tree.specs.declared.stmt.Constant.{Constant as WrittenConstant}
 use Rattle.dice_base.specs.declared.fault.NoMemory.{NoMemory}
 use Rattle.resolve_statements.specs.declared.form.KeptForm.{KeptForm}
 use Rattle.resolve_statements.specs.Forms.{kept_form, case_label, case_labels, heap_form, new_form, dispose_form}

@@ -1,14 +1,14 @@
 -- One layer of the plain statements of a body, and of the rows that they give.
-use Rattle.std.proofs.Common.{◌≡◌, ℕ, List, [], ◌∷◌, ◌++◌, map, Option, Some, None, refl, ap, sym, ◌∙◌}
+use Rattle.std.proofs.Common.{◌≡◌, ℕ, List, [], ◌∷◌, map, Some, None, refl, ap, ◌∙◌}
 use Rattle.pascal_tree.specs.declared.stmt.Stmt.{Stmt, out-Stmt}
 use Rattle.pascal_tree.specs.declared.stmt.StmtKind.{StmtKind, StmtKind-F, out-StmtKind}
 use Rattle.pascal_tree.specs.declared.stmt.Arm.{Arm, out-Arm}
 use Rattle.pascal_tree.specs.declared.stmt.StmtKind.TheFolds.{map-StmtKind, fold_out-StmtKind, fold_out-Arm, fold_out-Stmt}
-use Rattle.core_tree.specs.Plain.{Heading, Statement, Stmt as PlainStmt}
+use Rattle.core_tree.specs.Plain.{Heading}
 use Rattle.core_tree.specs.Shapes.{ShapeTree}
 use Rattle.resolve_expr.specs.declared.context.Context.{Context}
 use Rattle.resolve_statements.specs.Statements.{form_in, own_form, arm_constants}
-use Rattle.resolve_statements.specs.Bodies.{Body, KindBody, ArmBody, in_kind, in_arm, in_stmt, statement_of, kind_body, arm_body, plain_form}
+use Rattle.resolve_statements.specs.Bodies.{Body, KindBody, ArmBody, in_kind, in_arm, in_stmt, statement_of, kind_body, arm_body}
 
 module _ (trees : List ShapeTree) (headings : ℕ → Heading) where
   abbrev over : StmtKind-F StmtKind Arm Stmt → StmtKind-F KindBody ArmBody Body

@@ -1,5 +1,6 @@
 pub mod Arguments
 mod Examples
+pub mod Fitting
 pub mod Keeping
 pub mod Layers
 pub mod Opened

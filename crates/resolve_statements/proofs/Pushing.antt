@@ -1,5 +1,5 @@
 -- Rows that are pushed one after the other.
-use Rattle.std.proofs.Common.{◌≡◌, ◌≤◌, ◌<◌, ℕ, List, [], ◌∷◌, ◌++◌, Option, Some, None, Result, Ok, Err, refl, ap, sym, ◌∙◌, append_assoc, append-nil, arith}
+use Rattle.std.proofs.Common.{◌≡◌, ◌≤◌, ◌<◌, ℕ, List, [], ◌∷◌, ◌++◌, Option, Some, None, Result, Ok, Err, refl, ap, ◌∙◌, append_assoc, arith}
 use Rattle.std.proofs.lemmas.Bool.Decides.{nat_tests}
 use Rattle.check_rules.specs.declared.fault.SizeFault.{SizeFault}
 use Rattle.check_rules.specs.declared.fault.CheckEnd.{CheckEnd}
@@ -37,8 +37,8 @@ module _ {A B : Type 0} where
   pushed_behind (Err the_end.NoMemory) old middle new xs ys before more = more
 
   -- a limit that is not kept ends what would follow
-  pub ended_before : {U V : Type 0} (e : CheckEnd) (old new other xs ys : List (Row A B))
+  pub ended_before : (U V : Type 0) (e : CheckEnd) (old new other xs ys : List (Row A B))
       → Pushed {U = U} (Err e) old new xs → Pushed {U = V} (Err e) old other (xs ++ ys)
-  ended_before (the_end.Size f) old new other xs ys ends = size_append xs ys ∙ ap (λ s. first_of s (first_size ys)) ends
-  ended_before (the_end.Fault f) old new other xs ys ends = ends
-  ended_before the_end.NoMemory old new other xs ys ends = ends
+  ended_before U V (the_end.Size f) old new other xs ys ends = size_append xs ys ∙ ap (λ s. first_of s (first_size ys)) ends
+  ended_before U V (the_end.Fault f) old new other xs ys ends = ends
+  ended_before U V the_end.NoMemory old new other xs ys ends = ends

@@ -1,13 +1,11 @@
 -- The plain statements of a resolved program, over the tree: each statement with its own form, in what stands around it. A
 -- compound has no form.
-use Rattle.std.specs.Prelude.{ℕ, ◌+◌, List, [], ◌∷◌, ◌++◌, map, Option, Some, None, option_map, option_to_list}
+use Rattle.std.specs.Prelude.{ℕ, List, [], ◌∷◌, ◌++◌, map, Some, None, option_map, option_to_list}
 use Rattle.pascal_tree.specs.declared.stmt.Constant.{Constant as WrittenConstant}
 use Rattle.pascal_tree.specs.declared.stmt.Stmt.{Stmt as Tree, Stmt-F, fold-Stmt}
 use Rattle.pascal_tree.specs.declared.stmt.StmtKind.{StmtKind, StmtKind-F, fold-StmtKind}
 use Rattle.pascal_tree.specs.declared.stmt.Arm.{Arm, Arm-F, fold-Arm}
 use Rattle.core_tree.specs.declared.form.StatementForm.{StatementForm}
-use Rattle.core_tree.specs.declared.program.LinkEnd.{LinkEnd}
-use Rattle.core_tree.specs.Control.{Row, ControlFlow, link_flow, statement_rows, inner_rows, next_in, first_entry, after_in, around_in}
 use Rattle.core_tree.specs.Plain.{Form, Heading, Statement, Stmt, Statements, Last, Then}
 use Rattle.core_tree.specs.Shapes.{ShapeTree, tree_of}
 use Rattle.core_tree.specs.Views.{callees_in, joined_shapes, parts_in, shapes_of}

@@ -1,6 +1,6 @@
 -- Statements without their identifiers (ISO 7185:1990, 6.8 and 6.9): a rule for each form, whose expressions stand resolved
 -- already. What breaks a rule of the check has no meaning here, and is given any form.
-use Rattle.std.specs.Prelude.{ℕ, ◌+◌, min, ℤ, pos, Bool, true, false, ◌&&◌, not, if◌then◌else◌, List, [], ◌∷◌, ◌++◌, map, take, Option, Some, None, is_some}
+use Rattle.std.specs.Prelude.{ℕ, ◌+◌, min, ℤ, pos, Bool, true, false, if◌then◌else◌, List, [], ◌∷◌, ◌++◌, map, take, Option, Some, None}
 use Rattle.pascal_tree.specs.declared.stmt.Constant.{Constant as WrittenConstant}
 use Rattle.check_rules.specs.declared.typing.Host.{Host}
 use Rattle.check_rules.specs.declared.typing.Host.TheVariants as host
@@ -8,10 +8,8 @@ use Rattle.check_rules.specs.declared.typing.Typing.{Typing}
 use Rattle.check_rules.specs.declared.typing.Domain.{Domain}
 use Rattle.check_rules.specs.declared.entity.Variable.{Variable}
 use Rattle.check_rules.specs.declared.entity.RoutineEntity.{RoutineEntity}
-use Rattle.check_rules.specs.declared.entity.Standard.{Standard}
-use Rattle.check_rules.specs.declared.entity.Standard.TheVariants as standard
 use Rattle.check_rules.specs.declared.entity.Entity.{Entity}
-use Rattle.check_rules.specs.declared.entity.Entity.TheVariants.{VariableOf, RoutineOf, StandardOf}
+use Rattle.check_rules.specs.declared.entity.Entity.TheVariants.{VariableOf, RoutineOf}
 use Rattle.check_rules.specs.Typing.{Table, Text, bounds_of, words_of, host_of, string_length, domain_of}
 use Rattle.check_types.specs.Constants.{constant_from, number_in}
 use Rattle.expression_rules.specs.declared.notes.Env.{Env}

@@ -1,5 +1,5 @@
 -- The own forms of statements: the rules over the tree.
-use Rattle.std.specs.Prelude.{ℕ, Bool, true, false, ◌&&◌, not, if◌then◌else◌, List, [], ◌∷◌, map, Option, Some, None, is_some}
+use Rattle.std.specs.Prelude.{Bool, true, false, ◌&&◌, not, if◌then◌else◌, List, [], ◌∷◌, map, Option, Some, None, is_some}
 use Rattle.pascal_tree.specs.declared.expr.Arg.{Arg}
 use Rattle.pascal_tree.specs.declared.stmt.Constant.{Constant as WrittenConstant}
 use Rattle.pascal_tree.specs.declared.stmt.StmtKind.{StmtKind, StmtKind-F, out-StmtKind}

@@ -1,5 +1,5 @@
 -- The rows of the table of blocks that statements of a body give, in what stands around them.
-use Rattle.std.specs.Prelude.{ℕ, ◌≡◌, List, [], ◌∷◌, ◌++◌, map, Option, Some, None, option_map, Result, Ok, Err}
+use Rattle.std.specs.Prelude.{ℕ, ◌≡◌, List, [], ◌++◌, map, Option, Some, None, option_map, Result, Ok, Err}
 use Rattle.dice_base.specs.declared.name.Name.{Name}
 use Rattle.pascal_tree.specs.declared.stmt.Stmt.{Stmt}
 use Rattle.pascal_tree.specs.declared.stmt.StmtKind.{StmtKind}
@@ -19,7 +19,7 @@ use Rattle.core_tree.specs.Shapes.{ShapeTree}
 use Rattle.core_tree.specs.Views.{bare_form, block_row, heading_by}
 use Rattle.resolve_expr.specs.declared.context.Context.{Context}
 use Rattle.resolve_statements.specs.declared.place.Place.{Place}
-use Rattle.resolve_statements.specs.Bodies.{Body, ArmBody, KindBody, statements_in, plain_form, statement_of, kind_body, arm_body}
+use Rattle.resolve_statements.specs.Bodies.{Body, plain_form, statement_of, kind_body, arm_body}
 use Rattle.resolve_statements.specs.Sizes.{form_fault}
 
 -- what is made of an own form for a block of this name, or the first of its limits that it passes

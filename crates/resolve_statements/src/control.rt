@@ -16,7 +16,9 @@ use check_rules::{
     string_constant, words_of,
 };
 use check_types::{integer_constant, named_constant, number_in, signed_number};
-use core_tree::{CaseLabel, EffectOp, ForLoop, Op, Scope, Shape, StatementOp, Variable as PlaceVariable};
+use core_tree::{
+    CaseLabel, EffectOp, ForLoop, Op, Scope, Shape, StatementOp, Variable as PlaceVariable,
+};
 use dice_base::NoMemory;
 use expression_rules::{Env, OpenedRecord, declared_entity, opened_field};
 use pascal_tree::{Access, Arm, Constant};
