@@ -1,10 +1,7 @@
--- What is added piece by piece is added whole.
-use Rattle.std.proofs.Common.{OnOk, Result, ◌≡◌, List, [], ◌∷◌, ◌++◌, refl, ap, sym, ◌∙◌}
-use Rattle.std.proofs.lemmas.List.{append_assoc, append-nil}
+-- A kind is that of the statement whose own text says the same.
+use Rattle.std.proofs.Common.{IfOk, Result, Ok, Err, ℕ, ◌≡◌, sym, ◌∙◌}
 use Rattle.dice_base.specs.declared.fault.NoMemory.{NoMemory}
 
-pub added_one : {A : Type 0} (r : Result Unit NoMemory) (old new ys zs : List A) → zs ≡ ys → OnOk r (new ≡ old ++ ys) → OnOk r (new ≡ old ++ zs)
-added_one r old new ys zs is put = rw is put
-
-pub added_two : {A : Type 0} (r : Result Unit NoMemory) (old mid new xs ys zs : List A) → zs ≡ xs ++ ys → mid ≡ old ++ xs → OnOk r (new ≡ mid ++ ys) → OnOk r (new ≡ old ++ zs)
-added_two r old mid new xs ys zs is first put = rw is (rw (sym (append_assoc old xs ys)) (rw (sym first) put))
+pub kind_under : (r : Result ℕ NoMemory) (a b : ℕ) → b ≡ a → IfOk r (λ k. k ≡ a) → IfOk r (λ k. k ≡ b)
+kind_under (Ok k) a b is told = told ∙ sym is
+kind_under (Err e) a b is told = told

@@ -1,10 +1,16 @@
 -- The labels and the constants of statements, which their judgements keep.
-use Rattle.std.proofs.Common.{◌≡◌, List, [], ◌∷◌, ◌++◌, map, option_to_list, refl, ap, ◌∙◌}
+use Rattle.std.proofs.Common.{◌≡◌, List, [], ◌∷◌, ◌++◌, map, option_to_list, refl, ap, sym, ◌∙◌}
+use Rattle.pascal_tree.specs.declared.expr.Expr.{Expr}
+use Rattle.pascal_tree.specs.declared.stmt.StmtKind
+use Rattle.pascal_tree.specs.declared.stmt.StmtKind.{StmtKind-F}
+use Rattle.pascal_tree.specs.declared.stmt.StmtKind.TheVariants.{rolls-Case}
 use Rattle.pascal_tree.specs.declared.stmt.Stmt.{Stmt, out-Stmt}
 use Rattle.pascal_tree.specs.declared.stmt.Arm.{Arm, out-Arm}
-use Rattle.pascal_tree.specs.declared.stmt.StmtKind.TheFolds.{fold_out-Stmt, fold_out-Arm}
+use Rattle.pascal_tree.specs.declared.stmt.StmtKind.TheFolds.{fold_out-Stmt, fold_out-Arm, fold-roll-StmtKind}
 use Rattle.body_labels.specs.Labels.{Numbers}
-use Rattle.check_body.specs.StatementRules.{Judge, KindJudge, ArmJudge, arm_constants, labels_of}
+use Rattle.expression_rules.specs.declared.notes.Env.{Env}
+use Rattle.expression_rules.specs.Expressions.{judgement_of}
+use Rattle.check_body.specs.StatementRules.{Judge, KindJudge, ArmJudge, arm_constants, case_notes, labels_of}
 use Rattle.check_body.specs.Statements.{in_kind, in_arm, in_stmt, judge_of, kind_judge_of, arm_judge_of}
 use Rattle.check_body.specs.Steps.{written_constants, own_labels}
 
@@ -27,3 +33,13 @@ arms_are labels [] = refl
 arms_are labels (a ∷ arms) =
     ap (λ cs. cs ∷ arm_constants (map (arm_judge_of labels) arms)) (constants_are labels a)
     ∙ ap (λ css. written_constants a ∷ css) (arms_are labels arms)
+
+-- a `case` says by itself what its selector and its constants say
+pub case_own : (labels reach : Numbers) (env : Env) (k : StmtKind.StmtKind) (e : Expr) (arms : List Arm) → k ≡ StmtKind.Case e arms
+    → (kind_judge_of labels k).own env reach ≡ (case_notes env (judgement_of env e) (map written_constants arms)).kind
+unfolding judge_of kind_judge_of arm_judge_of
+case_own labels reach env k e arms is =
+    ap (λ x. (kind_judge_of labels x).own env reach) (is ∙ sym (rolls-Case e arms))
+    ∙ ap (λ (j : KindJudge). j.own env reach)
+    (fold-roll-StmtKind KindJudge ArmJudge Judge in_kind in_arm (in_stmt labels) (StmtKind-F.Case e arms))
+    ∙ ap (λ css. (case_notes env (judgement_of env e) css).kind) (arms_are labels arms)

@@ -1,6 +1,5 @@
 //! The variables that statements change, with all in them.
 ghost use Rattle.std.specs.Prelude.{◌≡◌, ◌++◌, map, OnOk};
-ghost use Rattle.body_labels.specs.Labels.{Numbers};
 ghost use Rattle.expression_rules.specs.Expressions as exprs;
 ghost use Rattle.check_body.specs.StatementRules as spec;
 ghost use Rattle.check_body.specs.Statements as folds;
@@ -89,15 +88,16 @@ fn push_opened(
 #[cycle(push_changes)]
 fn push_all(
     alloc: Global,
+    labels: &[u16],
     env: &mut Env,
     stmts: &[Stmt],
     out: &mut Items<(u32, Text)>,
 ) -> Result<(), NoMemory>
-    ensures value { (labels : Numbers) → OnOk result (out.new ≡ out.old ++ spec.all_changes (map (folds.judge_of labels) stmts.now) env.old) }
+    ensures value { OnOk result (out.new ≡ out.old ++ spec.all_changes (map (folds.judge_of labels.now) stmts.now) env.old) }
     ensures kept { OnOk result (env.new ≡ env.old) }
 {
     for stmt in stmts {
-        push_changes(alloc, env, stmt, out)?;
+        push_changes(alloc, labels, env, stmt, out)?;
     }
     Ok(())
 }
@@ -106,28 +106,30 @@ fn push_all(
 #[tactic(auto, unfolding(crate::specs::Statements::judge_of, crate::specs::Statements::arm_judge_of))]
 fn push_arm(
     alloc: Global,
+    labels: &[u16],
     env: &mut Env,
     arm: &Arm,
     out: &mut Items<(u32, Text)>,
 ) -> Result<(), NoMemory>
-    ensures value { (labels : Numbers) → OnOk result (out.new ≡ out.old ++ (folds.arm_judge_of labels arm.now).body.changes env.old) }
+    ensures value { OnOk result (out.new ≡ out.old ++ (folds.arm_judge_of labels.now arm.now).body.changes env.old) }
     ensures kept { OnOk result (env.new ≡ env.old) }
 {
-    push_changes(alloc, env, &arm.body, out)
+    push_changes(alloc, labels, env, &arm.body, out)
 }
 
 #[cycle(push_changes)]
 fn push_arms(
     alloc: Global,
+    labels: &[u16],
     env: &mut Env,
     arms: &[Arm],
     out: &mut Items<(u32, Text)>,
 ) -> Result<(), NoMemory>
-    ensures value { (labels : Numbers) → OnOk result (out.new ≡ out.old ++ spec.all_changes (spec.arm_bodies (map (folds.arm_judge_of labels) arms.now)) env.old) }
+    ensures value { OnOk result (out.new ≡ out.old ++ spec.all_changes (spec.arm_bodies (map (folds.arm_judge_of labels.now) arms.now)) env.old) }
     ensures kept { OnOk result (env.new ≡ env.old) }
 {
     for arm in arms {
-        push_arm(alloc, env, arm, out)?;
+        push_arm(alloc, labels, env, arm, out)?;
     }
     Ok(())
 }
@@ -135,16 +137,17 @@ fn push_arms(
 #[cycle(push_changes)]
 fn push_in_for(
     alloc: Global,
+    labels: &[u16],
     env: &mut Env,
     body: &Stmt,
     out: &mut Items<(u32, Text)>,
 ) -> Result<(), NoMemory>
-    ensures value { (labels : Numbers) → OnOk result (out.new ≡ out.old ++ (folds.judge_of labels body.now).changes (spec.env_in_for env.old)) }
+    ensures value { OnOk result (out.new ≡ out.old ++ (folds.judge_of labels.now body.now).changes (spec.env_in_for env.old)) }
     ensures kept { OnOk result (env.new ≡ env.old) }
 {
     let holds = env.holds;
     enter_for(env)?;
-    push_changes(alloc, env, body, out)?;
+    push_changes(alloc, labels, env, body, out)?;
     leave_for(env, holds);
     Ok(())
 }
@@ -153,11 +156,12 @@ fn push_in_for(
 #[tactic(auto, using(crate::proofs::Opened::closed_with), unfolding(crate::specs::Statements::judge_of, crate::specs::Statements::kind_judge_of, crate::specs::Statements::arm_judge_of))]
 fn push_kind(
     alloc: Global,
+    labels: &[u16],
     env: &mut Env,
     kind: &StmtKind,
     out: &mut Items<(u32, Text)>,
 ) -> Result<(), NoMemory>
-    ensures value { (labels : Numbers) → OnOk result (out.new ≡ out.old ++ (folds.kind_judge_of labels kind.now).changes env.old) }
+    ensures value { OnOk result (out.new ≡ out.old ++ (folds.kind_judge_of labels.now kind.now).changes env.old) }
     ensures kept { OnOk result (env.new ≡ env.old) }
 {
     match kind {
@@ -165,37 +169,37 @@ fn push_kind(
         StmtKind::Goto(_) => Ok(()),
         StmtKind::Assign(access, expr) => push_assigned(alloc, env, access, expr, out),
         StmtKind::Call(ident, args) => push_called(alloc, env, ident, args.as_slice(), out),
-        StmtKind::Compound(stmts) => push_all(alloc, env, stmts.as_slice(), out),
+        StmtKind::Compound(stmts) => push_all(alloc, labels, env, stmts.as_slice(), out),
         StmtKind::If(expr, first, None) => {
             push_valued(alloc, env, expr, out)?;
-            push_changes(alloc, env, first.get(), out)
+            push_changes(alloc, labels, env, first.get(), out)
         }
         StmtKind::If(expr, first, Some(second)) => {
             push_valued(alloc, env, expr, out)?;
-            push_changes(alloc, env, first.get(), out)?;
-            push_changes(alloc, env, second.get(), out)
+            push_changes(alloc, labels, env, first.get(), out)?;
+            push_changes(alloc, labels, env, second.get(), out)
         }
         StmtKind::Case(expr, arms) => {
             push_valued(alloc, env, expr, out)?;
-            push_arms(alloc, env, arms.as_slice(), out)
+            push_arms(alloc, labels, env, arms.as_slice(), out)
         }
         StmtKind::While(expr, body) => {
             push_valued(alloc, env, expr, out)?;
-            push_changes(alloc, env, body.get(), out)
+            push_changes(alloc, labels, env, body.get(), out)
         }
         StmtKind::Repeat(stmts, expr) => {
             push_valued(alloc, env, expr, out)?;
-            push_all(alloc, env, stmts.as_slice(), out)
+            push_all(alloc, labels, env, stmts.as_slice(), out)
         }
         StmtKind::For(ident, first, _, last, body) => {
             push_for(alloc, env, ident, first, last, out)?;
-            push_in_for(alloc, env, body.get(), out)
+            push_in_for(alloc, labels, env, body.get(), out)
         }
         StmtKind::With(records, body) => {
             let count = env.opened.len();
             let holds = env.holds;
             push_opened(alloc, env, records.as_slice(), out)?;
-            push_changes(alloc, env, body.get(), out)?;
+            push_changes(alloc, labels, env, body.get(), out)?;
             close_records(env, count, holds);
             Ok(())
         }
@@ -203,18 +207,19 @@ fn push_kind(
 }
 
 /// Adds the variables that a statement changes, with all in it, each by its owner and its identifier: those that are
-/// assigned, read into, passed by their places or control a `for` (ISO 7185:1990, 6.8.3.9). With an error `env` and `out`
-/// may have changed.
+/// assigned, read into, passed by their places or control a `for` (ISO 7185:1990, 6.8.3.9). `labels` are those that its
+/// block declares. With an error `env` and `out` may have changed.
 #[cycle(push_changes)]
 #[tactic(auto, unfolding(crate::specs::Statements::judge_of, crate::specs::Statements::kind_judge_of))]
 pub fn push_changes(
     alloc: Global,
+    labels: &[u16],
     env: &mut Env,
     stmt: &Stmt,
     out: &mut Items<(u32, Text)>,
 ) -> Result<(), NoMemory>
-    ensures value { (labels : Numbers) → OnOk result (out.new ≡ out.old ++ (folds.judge_of labels stmt.now).changes env.old) }
+    ensures value { OnOk result (out.new ≡ out.old ++ (folds.judge_of labels.now stmt.now).changes env.old) }
     ensures kept { OnOk result (env.new ≡ env.old) }
 {
-    push_kind(alloc, env, &stmt.kind, out)
+    push_kind(alloc, labels, env, &stmt.kind, out)
 }

@@ -170,7 +170,7 @@ pub fn push_kinds(
     ensures kept { OnOk result (env.new ≡ env.old) }
 {
     let inside = reach_within(alloc, stmt.label, reach)?;
-    let own = own_kind(alloc, env, &stmt.kind, inside.as_slice())?;
+    let own = own_kind(alloc, labels, env, &stmt.kind, inside.as_slice())?;
     out.push(StatementKind {
         name: stmt.name,
         kind: least(label_kind(labels, stmt.label), own),
