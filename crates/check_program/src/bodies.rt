@@ -150,7 +150,7 @@ fn judge_body(
         return Err(CheckEnd::Fault(fault));
     }
     let mut changes = Items::new(alloc);
-    let Ok(()) = push_changes(alloc, &mut inside.env, body, &mut changes) else {
+    let Ok(()) = push_changes(alloc, labels, &mut inside.env, body, &mut changes) else {
         return Err(CheckEnd::NoMemory);
     };
     let Ok(after) = come_out(inside, changes, outer) else {
