@@ -10,7 +10,7 @@ use Rattle.plain_pascal.specs.Operations.{part}
 use Rattle.plain_pascal.specs.Statements.{Does, held, held_in}
 use Rattle.plain_pascal.specs.Step.{effected, given}
 use Rattle.plain_pascal.specs.Typed.{IsEffect}
-use Rattle.plain_pascal.specs.Valid.{IsOf, AreOf, AtStatement, InProgress, NewestStands, IsData, IsProgram, IsWellFormed, held_by_first, kinds_held}
+use Rattle.plain_pascal.specs.Valid.{IsOf, AreOf, AtStatement, InProgress, NewestStands, IsData, IsProgram, IsWellFormed, held_by_first, kinds_held, within}
 use Rattle.plain_pascal.proofs.Gates.{Holding, lies_held, more_kinds, nothing_more, rehold}
 use Rattle.plain_pascal.proofs.Held.{effect_outside, given_more, number_of, outer_part}
 use Rattle.plain_pascal.proofs.Keeps.{at_work, effect_kind, effect_typed, operation_progress, progress_at}
@@ -53,7 +53,7 @@ module _ (P : Program) (program : IsProgram P) (d : Data) (good : IsData d) (a :
   hold_stands fs full h =
       let (done, t, ho) = effect_typed P program n cs d good a xs same (effect.Hold number words) ps kept fs full h in
       by fs (record_place done t ho) at.held (progress_at P program n cs d good a xs same own fs at)
-      (operation_progress P program n cs d good a xs same (op.Effect (effect.Hold number words)) ps kept fs NoValue full at.row (λ k js s hs. effect_kind P program n cs d good a xs same at.row (effect.Hold number words) k js s)
+      (operation_progress P program n cs d good a xs same (op.Effect (effect.Hold number words)) ps kept fs NoValue full at.row (λ k js s hs. effect_kind P program n cs d good a xs same (within at.row (kinds_held at.row (own ∷ fs))) (effect.Hold number words) k js s)
       (progress_at P program n cs d good a xs same own fs at))
     where
       at : AtStatement P (a ∷ xs) (length xs) a (record { statement = n; frames = own ∷ fs })

@@ -23,7 +23,7 @@ use Rattle.plain_pascal.proofs.Evaluates.{checked_sound}
 use Rattle.plain_pascal.proofs.Gates.{Holding, first_held, gate_reached, goes_on, activation_held, waits_held, values_held, holding_alike, holding_scoped, loop_variable, more_kinds, nothing_more, part_word, value_small}
 use Rattle.plain_pascal.proofs.Held.{all_held}
 use Rattle.plain_pascal.proofs.Inputs.{LeavesBytes, line_bytes}
-use Rattle.plain_pascal.proofs.Keeps.{at_work, progress_at, sees_at, some_part}
+use Rattle.plain_pascal.proofs.Keeps.{at_work, progress_at, sees_at, some_statement_part}
 use Rattle.plain_pascal.proofs.Kept.{as_many}
 use Rattle.plain_pascal.proofs.Places.{shorter_lies, variable_lies}
 use Rattle.plain_pascal.proofs.Sound.{GivesOf}
@@ -238,7 +238,7 @@ module _ (P : Program) (program : IsProgram P) (d : Data) (good : IsData d) (a :
           → IsWellFormed P (statement_done P n (row_of P n) f kept cs d)
       by (g ∷ gs) (rest, fr, inside) held = absurd (let clash : OfStatement f ≡ OfExpr (Operation fr.0 fr.1) = fr.4 in grind (arith, clash))
       by [] (k ∷ ks, fr, inside) held =
-          absurd (let (e, found) = some_part P at.row fr.1.0 k ks f.parts fr.1.1 in
+          absurd (let (e, found) = some_statement_part P at.row.routine at.row.around fr.1.0 k ks f.parts fr.1.1 in
           let clash : None ≡ Some e = sym full ∙ ap (part_at f.parts) (as_many P (a ∷ xs) (length xs) at.row fr.1.0 kept fr.1.2) ∙ found in grind (arith, clash))
       by [] ([], fr, inside) held =
           let node_same : OfStatement f ≡ OfStatement at.row.form = fr.0 in
