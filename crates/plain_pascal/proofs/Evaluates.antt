@@ -1,24 +1,21 @@
 -- An operation without effect gives a value of its kind, where its parts have theirs, or a run-time error.
-use Rattle.std.proofs.Common.{◌≡◌, ℕ, ◌≤◌, Bool, true, false, List, [], ◌∷◌, ◌++◌, refl, sym, ap, subst}
+use Rattle.std.proofs.Common.{ℕ, ◌≤◌, Bool, true, false, List, [], ◌∷◌, sym, subst}
 use Rattle.core_tree.specs.declared.op.Op.{Op}
 use Rattle.core_tree.specs.declared.op.Op.TheVariants as op
 use Rattle.core_tree.specs.declared.op.Storage.{Storage}
 use Rattle.core_tree.specs.declared.op.Storage.TheVariants as storage
-use Rattle.core_tree.specs.Plain.{Expr, Operation, Exprs, NoMore, And}
 use Rattle.plain_pascal.specs.Program.{Kind, NoKind, WordKind, SetKind, PlaceKind, Row, Program}
-use Rattle.plain_pascal.specs.State.{Value, Word, Members, At, NoValue, OfExpr, PendingFrame, Activation, Data}
-use Rattle.plain_pascal.specs.Integers.{Result, Gives, Fails}
+use Rattle.plain_pascal.specs.State.{Value, Word, Members, At, NoValue, Activation, Data}
+use Rattle.plain_pascal.specs.Integers.{Gives, Fails}
 use Rattle.plain_pascal.specs.Sets.{members_within}
 use Rattle.dice_base.specs.Word.{signed_value}
 use Rattle.std.specs.Prelude.{if◌then◌else◌}
 use Rattle.plain_pascal.specs.Memory.{word_in}
 use Rattle.plain_pascal.specs.Operations.{part, members_in, checked, value_of}
-use Rattle.plain_pascal.specs.Typed.{IsStored, stored_kind, IsOp, IsValued, AllValued, IsExpr, typed, AreExprs, each}
-use Rattle.plain_pascal.specs.Valid.{IsOf, AreOf, AreFrames}
-use Rattle.plain_pascal.specs.Evaluation.{Outcome, Comes, Stops, Calls, of_result, of_operation, then_with, frame_with, evaluated, parts_evaluated}
+use Rattle.plain_pascal.specs.Typed.{IsStored, stored_kind, IsOp}
+use Rattle.plain_pascal.specs.Valid.{IsOf, AreOf}
 use Rattle.plain_pascal.proofs.Sound.{GivesOf, word_sound, ranged_sound}
 use Rattle.plain_pascal.proofs.Places.{shorter_lies}
-use Rattle.plain_pascal.proofs.Kept.{one_more, append_one}
 use Rattle.plain_pascal.proofs.Values.{Sees, place_sound, set_sound}
 
 -- an operation that is evaluated without an effect

@@ -11,7 +11,7 @@ use Rattle.plain_pascal.specs.Step.{given, frame_of, parts_of}
 use Rattle.plain_pascal.specs.Typed.{AreExprs, each, IsEffect, IsOp, AreParts}
 use Rattle.core_tree.specs.declared.op.EffectOp.{EffectOp}
 use Rattle.core_tree.specs.declared.op.Op.TheVariants as op
-use Rattle.plain_pascal.specs.Valid.{IsOf, AreOf, AreFrames, InProgress, AtStatement, NewestStands, IsData, IsProgram, held_by_first, kinds_held, parts_done, within}
+use Rattle.plain_pascal.specs.Valid.{IsOf, AreOf, AreFrames, InProgress, AtStatement, NewestStands, IsData, IsProgram, kinds_held, within}
 use Rattle.plain_pascal.specs.Blocks.{node_at}
 use Rattle.plain_pascal.proofs.Held.{given_held, given_inside}
 use Rattle.plain_pascal.proofs.Sound.{GivesOf}
