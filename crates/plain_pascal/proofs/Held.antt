@@ -11,14 +11,7 @@ use Rattle.plain_pascal.specs.Step.{given, parts_of}
 use Rattle.plain_pascal.specs.Blocks.{AreInside, next_part, node_at}
 use Rattle.plain_pascal.specs.Typed.{AllValued, AreExprs, AreNumbered, AreParts, IsExpr, IsValued, each, typed}
 use Rattle.plain_pascal.specs.Valid.{AreFrames, held_by_first, kinds_held}
-
-no_more : (ks : List Kind) → ks ++ [] ≡ ks
-no_more [] = refl
-no_more (k ∷ ks) = ap (λ x. k ∷ x) (no_more ks)
-
-pub joined_kinds : (xs ys zs : List Kind) → (xs ++ ys) ++ zs ≡ xs ++ (ys ++ zs)
-joined_kinds [] ys zs = refl
-joined_kinds (x ∷ xs) ys zs = ap (λ ks. x ∷ ks) (joined_kinds xs ys zs)
+use Rattle.plain_pascal.proofs.Joined.{joined_kinds, no_more_kinds}
 
 -- ---- parts of a statement
 
@@ -28,7 +21,7 @@ first_more NoMore k o ps e = absurd (grind (arith, e))
 first_more (And (Operation x xs) es) zero o ps e =
     let same : Operation x xs ≡ Operation o ps = cc e in
     let op_same : x ≡ o = cc same in
-    no_more (held_by x) ∙ ap held_by op_same
+    no_more_kinds (held_by x) ∙ ap held_by op_same
 first_more (And (Operation x xs) es) (suc k) o ps e =
     ap (λ ks. held_by x ++ ks) (first_more es k o ps e) ∙ sym (joined_kinds (held_by x) (held_by_first k es) (held_by o))
 
@@ -90,7 +83,7 @@ module _ (row : Row) where
   given_held o ps kept g [] v none h =
       given_more o ps g v h.1 h.0
       ∙ ap (λ ks. row.around ++ (held_by_first (length g.kept) row.form.parts ++ ks)) none
-      ∙ ap (λ ks. row.around ++ ks) (no_more (held_by_first (length g.kept) row.form.parts))
+      ∙ ap (λ ks. row.around ++ ks) (no_more_kinds (held_by_first (length g.kept) row.form.parts))
 
 -- ---- an effect is a part of its statement
 

@@ -20,6 +20,7 @@ use Rattle.plain_pascal.proofs.Values.{Sees}
 use Rattle.plain_pascal.proofs.Evaluates.{IsPlain, value_sound}
 use Rattle.plain_pascal.proofs.Kept.{as_many, part_keeps, value_keeps}
 use Rattle.plain_pascal.proofs.Scopes.{standing_all, all_scoped}
+use Rattle.plain_pascal.proofs.Joined.{no_more_kinds}
 
 -- there are as many parts as kinds
 no_part : (P : Program) (row : Row) (done : List Kind) (ps : Exprs) → AreExprs P row.routine row.around ps (done ++ []) → part_at ps (length done) ≡ None
@@ -46,10 +47,6 @@ some_statement_part P n around [] k ks NoMore h = absurd h
 some_statement_part P n around [] k ks (And e es) h = (e, refl)
 some_statement_part P n around (j ∷ done) k ks NoMore h = absurd h
 some_statement_part P n around (j ∷ done) k ks (And e es) h = some_statement_part P n (around ++ held_by (op_of e)) done k ks es h.1
-
-no_more_kinds : (ks : List Kind) → ks ++ [] ≡ ks
-no_more_kinds [] = refl
-no_more_kinds (k ∷ ks) = ap (λ x. k ∷ x) (no_more_kinds ks)
 
 module _ (P : Program) (program : IsProgram P) (n : ℕ) (cs : List Control) (d : Data) (good : IsData d) (a : Activation) (xs : List Activation) (same : d.activations ≡ a ∷ xs) where
   abbrev acts : List Activation
@@ -117,10 +114,6 @@ module _ (P : Program) (program : IsProgram P) (n : ℕ) (cs : List Control) (d 
       by row [] [] fr = absurd (let clash : None ≡ Some e = none row fr.1.0 fr.1.1 fr.1.2 in grind (arith, clash))
       by row [] (g ∷ gs) fr = absurd (let clash : None ≡ Some e = full (within row (kinds_held row (g ∷ gs))) fr.5.0 fr.5.1 fr.5.2 in grind (arith, clash))
 
-  nothing_more : (done : List Kind) → done ++ [] ≡ done
-  nothing_more [] = refl
-  nothing_more (k ∷ done) = ap (λ x. k ∷ x) (nothing_more done)
-
   -- an operation that has its parts gives a value to the frame outside
   module _ (o : Op) (ps : Exprs) (kept : List Value) (fs : List PendingFrame) (v : Value) (full : part_at ps (length kept) ≡ None) where
     abbrev own : PendingFrame
@@ -141,7 +134,7 @@ module _ (P : Program) (program : IsProgram P) (n : ℕ) (cs : List Control) (d 
             let op_same : fr.0 ≡ o = cc inner in
             let t : IsOp P row.routine (kinds_held row (g ∷ gs)) o (fr.5.0 ++ []) fr.2 = subst (λ x. IsOp P row.routine (kinds_held row (g ∷ gs)) x (fr.5.0 ++ []) fr.2) op_same fr.5.3 in (
               fr.3,
-              value_keeps P acts newest row fr.2 fr.3 (g ∷ gs) v (gives fr.2 fr.5.0 (subst (λ x. IsOp P row.routine (kinds_held row (g ∷ gs)) o x fr.2) (nothing_more fr.5.0) t) fr.5.2) fr.6,
+              value_keeps P acts newest row fr.2 fr.3 (g ∷ gs) v (gives fr.2 fr.5.0 (subst (λ x. IsOp P row.routine (kinds_held row (g ∷ gs)) o x fr.2) (no_more_kinds fr.5.0) t) fr.5.2) fr.6,
               given_inside (OfStatement row.form) own g gs v inside,
             )
 
@@ -203,7 +196,7 @@ module _ (P : Program) (program : IsProgram P) (n : ℕ) (cs : List Control) (d 
           let inner : OfExpr (Operation (op.Effect e) ps) ≡ OfExpr (Operation fr.0 fr.1) = fr.4 in
           let op_same : fr.0 ≡ op.Effect e = cc inner in
           let t : IsOp P row.routine (kinds_held row (g ∷ gs)) (op.Effect e) (fr.5.0 ++ []) fr.2 = subst (λ x. IsOp P row.routine (kinds_held row (g ∷ gs)) x (fr.5.0 ++ []) fr.2) op_same fr.5.3 in
-          (fr.5.0, effect_of_kind (within row (kinds_held row (g ∷ gs))) e fr.2 fr.5.0 (subst (λ x. IsOp P row.routine (kinds_held row (g ∷ gs)) (op.Effect e) x fr.2) (nothing_more fr.5.0) t), fr.5.2)
+          (fr.5.0, effect_of_kind (within row (kinds_held row (g ∷ gs))) e fr.2 fr.5.0 (subst (λ x. IsOp P row.routine (kinds_held row (g ∷ gs)) (op.Effect e) x fr.2) (no_more_kinds fr.5.0) t), fr.5.2)
 
       framed : (at : AtStatement P acts newest a (record { statement = n; frames = f ∷ fs })) → (f ∷ fs ≡ []) ⊎ InProgress P acts newest at.row (f ∷ fs) → (done : List Kind) × IsEffect e done × AreOf acts newest done kept
       framed at (inl x) = absurd (grind (arith, x))

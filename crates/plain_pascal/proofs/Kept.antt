@@ -6,6 +6,7 @@ use Rattle.plain_pascal.specs.State.{Value, OfStatement, OfExpr, PendingFrame, A
 use Rattle.plain_pascal.specs.Step.{given, frame_of, parts_of}
 use Rattle.plain_pascal.specs.Typed.{IsExpr, typed, AreExprs, AreParts, each, IsOp, IsStatement, IsForm}
 use Rattle.plain_pascal.specs.Valid.{IsOf, AreOf, Fits, FitsStatement, AreFrames, held_by_first, kinds_held, within}
+use Rattle.plain_pascal.proofs.Joined.{joined_kinds, no_more_kinds}
 
 module _ (P : Program) (acts : List Activation) (newest : ℕ) (row : Row) where
   -- there are as many values as kinds
@@ -32,21 +33,13 @@ module _ (P : Program) (acts : List Activation) (newest : ℕ) (row : Row) where
   next_typed around [] k ks (And x xs) e (each a es b bs h hs) same = let s : x ≡ e = cc same in subst (λ y. IsExpr P row.routine around y k) s h
   next_typed around (j ∷ done) k ks (And x xs) e (each a es b bs h hs) same = next_typed around done k ks xs e hs same
 
-  no_more : (ks : List Kind) → ks ++ [] ≡ ks
-  no_more [] = refl
-  no_more (k ∷ ks) = ap (λ x. k ∷ x) (no_more ks)
-
-  joined : (xs ys zs : List Kind) → (xs ++ ys) ++ zs ≡ xs ++ (ys ++ zs)
-  joined [] ys zs = refl
-  joined (x ∷ xs) ys zs = ap (λ ks. x ∷ ks) (joined xs ys zs)
-
   next_part_typed : (around done : List Kind) (k : Kind) (ks : List Kind) (ps : Exprs) (e : Expr) → AreParts P row.routine around ps (done ++ (k ∷ ks)) → part_at ps (length done) ≡ Some e
       → IsExpr P row.routine (around ++ held_by_first (length done) ps) e k
   next_part_typed around [] k ks NoMore e h same = absurd h
   next_part_typed around (j ∷ done) k ks NoMore e h same = absurd h
-  next_part_typed around [] k ks (And x xs) e h same = let s : x ≡ e = cc same in subst (λ js. IsExpr P row.routine js e k) (sym (no_more around)) (subst (λ y. IsExpr P row.routine around y k) s h.0)
+  next_part_typed around [] k ks (And x xs) e h same = let s : x ≡ e = cc same in subst (λ js. IsExpr P row.routine js e k) (sym (no_more_kinds around)) (subst (λ y. IsExpr P row.routine around y k) s h.0)
   next_part_typed around (j ∷ done) k ks (And (Operation o ps) xs) e h same =
-      subst (λ js. IsExpr P row.routine js e k) (joined around (held_by o) (held_by_first (length done) xs)) (next_part_typed (around ++ held_by o) done k ks xs e h.1 same)
+      subst (λ js. IsExpr P row.routine js e k) (joined_kinds around (held_by o) (held_by_first (length done) xs)) (next_part_typed (around ++ held_by o) done k ks xs e h.1 same)
 
   -- a gate is passed
   pub gate_keeps : (f : IsForm P row) → AreFrames P acts newest row f.kinds (frame_of (OfStatement row.form) ∷ [])
