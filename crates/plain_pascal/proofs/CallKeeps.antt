@@ -8,7 +8,7 @@ use Rattle.plain_pascal.specs.Program.{Kind, Row, RoutineRow, Program, routine_o
 use Rattle.plain_pascal.specs.State.{Value, OfStatement, OfExpr, PendingFrame, Activation, Data, Control}
 use Rattle.plain_pascal.specs.Step.{frame_words, parent_of}
 use Rattle.plain_pascal.specs.Typed.{slots_of, slots_in, argument_kinds, IsOp, IsCall, IsScopeOf}
-use Rattle.plain_pascal.specs.Valid.{AreOf, AreFrames, InProgress, AtStatement, IsActivation, NewestStands, IsData, IsProgram}
+use Rattle.plain_pascal.specs.Valid.{AreOf, AreFrames, InProgress, within, kinds_held, AtStatement, IsActivation, NewestStands, IsData, IsProgram}
 use Rattle.plain_pascal.proofs.Kept.{as_many}
 use Rattle.plain_pascal.proofs.Keeps.{some_part}
 use Rattle.plain_pascal.proofs.Scopes.{standing_all}
@@ -39,12 +39,12 @@ module _ (P : Program) (program : IsProgram P) (n : ℕ) (cs : List Control) (d 
   typed_call row rest [] fr = absurd (let clash : OfExpr (Operation (op.Call c) ps) ≡ OfStatement row.form = fr.0 in grind (arith, clash))
   typed_call row (k ∷ ks) (g ∷ gs) fr =
       let inner : OfExpr (Operation (op.Call c) ps) ≡ OfExpr (Operation fr.0 fr.1) = fr.4 in
-      absurd (let (e, at) = some_part P row fr.5.0 k ks ps fr.5.1 in
+      absurd (let (e, at) = some_part P (within row (kinds_held row (g ∷ gs))) fr.5.0 k ks ps fr.5.1 in
       let clash : None ≡ Some e = sym full ∙ ap (part_at ps) (as_many P acts (length xs) row fr.5.0 kept fr.5.2) ∙ at in grind (arith, clash))
   typed_call row [] (g ∷ gs) fr =
       let inner : OfExpr (Operation (op.Call c) ps) ≡ OfExpr (Operation fr.0 fr.1) = fr.4 in
       let op_same : fr.0 ≡ op.Call c = cc inner in
-      (fr.2, fr.5.0 ++ [], subst (λ x. IsOp P row.routine row.around x (fr.5.0 ++ []) fr.2) op_same fr.5.3, subst (λ ks. AreOf acts (length xs) ks kept) (sym (plus_none fr.5.0)) fr.5.2)
+      (fr.2, fr.5.0 ++ [], subst (λ x. IsOp P row.routine (kinds_held row (g ∷ gs)) x (fr.5.0 ++ []) fr.2) op_same fr.5.3, subst (λ ks. AreOf acts (length xs) ks kept) (sym (plus_none fr.5.0)) fr.5.2)
     where
       plus_none : (done : List Kind) → done ++ [] ≡ done
       plus_none [] = refl

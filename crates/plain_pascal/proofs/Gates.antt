@@ -22,6 +22,7 @@ use Rattle.plain_pascal.proofs.Scopes.{all_scoped, waiting_all}
 use Rattle.plain_pascal.proofs.Sound.{place_word}
 use Rattle.plain_pascal.proofs.Stays.{activation_alike, waits_alike}
 use Rattle.plain_pascal.proofs.Stores.{AllAlike, IsAfter, same_count, values_alike, word_after}
+use Rattle.plain_pascal.proofs.Joined.{joined_kinds, no_more_kinds}
 
 -- ---- other holds
 
@@ -92,14 +93,6 @@ none_held : (vs : List Value) → take 0 vs ≡ []
 none_held [] = refl
 none_held (v ∷ vs) = refl
 
-pub nothing_more : (ks : List Kind) → ks ++ [] ≡ ks
-nothing_more [] = refl
-nothing_more (k ∷ ks) = ap (λ x. k ∷ x) (nothing_more ks)
-
-pub more_kinds : (xs ys zs : List Kind) → (xs ++ ys) ++ zs ≡ xs ++ (ys ++ zs)
-more_kinds [] ys zs = refl
-more_kinds (x ∷ xs) ys zs = ap (λ ks. x ∷ ks) (more_kinds xs ys zs)
-
 charges_cut : (k : ℕ) (acts : List Activation) → stack_charges (holds_cut k acts) ≡ stack_charges acts
 charges_cut k [] = refl
 charges_cut k (a ∷ xs) = refl
@@ -166,7 +159,7 @@ module _ (P : Program) (program : IsProgram P) (r : ℕ) (cs : List Control) whe
   stands_cut ks n g (a ∷ xs) h =
       let count : held_in (row_of P n) ≡ length g.row.around = ap held_in g.found ∙ (program.forms n g.row g.found).holds in
       let held : AreOf (a ∷ xs) (length xs) (g.row.around ++ (g.ended ++ h.3.0)) a.holds =
-      subst (λ js. AreOf (a ∷ xs) (length xs) js a.holds) (ap (λ js. js ++ h.3.0) g.around ∙ more_kinds g.row.around g.ended h.3.0) h.3.1 in
+      subst (λ js. AreOf (a ∷ xs) (length xs) js a.holds) (ap (λ js. js ++ h.3.0) g.around ∙ joined_kinds g.row.around g.ended h.3.0) h.3.1 in
       let cut : AreOf (a ∷ xs) (length xs) g.row.around (take (held_in (row_of P n)) a.holds) =
       subst (λ k. AreOf (a ∷ xs) (length xs) g.row.around (take k a.holds)) (sym count) (first_held (a ∷ xs) (length xs) g.row.around (g.ended ++ h.3.0) a.holds held) in (
         activation_held a xs (take (held_in (row_of P n)) a.holds) P h.1,
@@ -174,7 +167,7 @@ module _ (P : Program) (program : IsProgram P) (r : ℕ) (cs : List Control) whe
           row = g.row;
           found = g.found;
           inside = g.inside ∙ sym h.0;
-          held = subst (λ js. AreOf (rehold a xs (take (held_in (row_of P n)) a.holds) ∷ xs) (length xs) js (take (held_in (row_of P n)) a.holds)) (sym (nothing_more g.row.around))
+          held = subst (λ js. AreOf (rehold a xs (take (held_in (row_of P n)) a.holds) ∷ xs) (length xs) js (take (held_in (row_of P n)) a.holds)) (sym (no_more_kinds g.row.around))
               (values_held a xs (take (held_in (row_of P n)) a.holds) P g.row.around (take (held_in (row_of P n)) a.holds) cut);
           frames = inl refl;
         }),

@@ -4,21 +4,14 @@ use Rattle.core_tree.specs.declared.op.Op.{Op}
 use Rattle.core_tree.specs.declared.op.Op.TheVariants as op
 use Rattle.core_tree.specs.declared.op.EffectOp.{EffectOp}
 use Rattle.core_tree.specs.declared.op.EffectOp.TheVariants as effect
-use Rattle.core_tree.specs.Plain.{Expr, Operation, Exprs, NoMore, And, part_at}
+use Rattle.core_tree.specs.Plain.{Expr, Operation, Exprs, NoMore, And, op_of, part_at}
 use Rattle.plain_pascal.specs.Program.{Kind, NoKind, WordKind, SetKind, PlaceKind, Row, Program, held_by, held_by_parts}
 use Rattle.plain_pascal.specs.State.{Value, Node, OfStatement, OfExpr, PendingFrame, Activation}
 use Rattle.plain_pascal.specs.Step.{given, parts_of}
 use Rattle.plain_pascal.specs.Blocks.{AreInside, next_part, node_at}
-use Rattle.plain_pascal.specs.Typed.{AllValued, AreExprs, AreNumbered, IsExpr, IsValued, each, typed}
+use Rattle.plain_pascal.specs.Typed.{AllValued, AreExprs, AreNumbered, AreParts, IsExpr, IsValued, each, typed}
 use Rattle.plain_pascal.specs.Valid.{AreFrames, held_by_first, kinds_held}
-
-no_more : (ks : List Kind) → ks ++ [] ≡ ks
-no_more [] = refl
-no_more (k ∷ ks) = ap (λ x. k ∷ x) (no_more ks)
-
-pub joined_kinds : (xs ys zs : List Kind) → (xs ++ ys) ++ zs ≡ xs ++ (ys ++ zs)
-joined_kinds [] ys zs = refl
-joined_kinds (x ∷ xs) ys zs = ap (λ ks. x ∷ ks) (joined_kinds xs ys zs)
+use Rattle.plain_pascal.proofs.Joined.{joined_kinds, no_more_kinds}
 
 -- ---- parts of a statement
 
@@ -28,7 +21,7 @@ first_more NoMore k o ps e = absurd (grind (arith, e))
 first_more (And (Operation x xs) es) zero o ps e =
     let same : Operation x xs ≡ Operation o ps = cc e in
     let op_same : x ≡ o = cc same in
-    no_more (held_by x) ∙ ap held_by op_same
+    no_more_kinds (held_by x) ∙ ap held_by op_same
 first_more (And (Operation x xs) es) (suc k) o ps e =
     ap (λ ks. held_by x ++ ks) (first_more es k o ps e) ∙ sym (joined_kinds (held_by x) (held_by_first k es) (held_by o))
 
@@ -90,7 +83,7 @@ module _ (row : Row) where
   given_held o ps kept g [] v none h =
       given_more o ps g v h.1 h.0
       ∙ ap (λ ks. row.around ++ (held_by_first (length g.kept) row.form.parts ++ ks)) none
-      ∙ ap (λ ks. row.around ++ ks) (no_more (held_by_first (length g.kept) row.form.parts))
+      ∙ ap (λ ks. row.around ++ ks) (no_more_kinds (held_by_first (length g.kept) row.form.parts))
 
 -- ---- an effect is a part of its statement
 
@@ -106,6 +99,15 @@ module _ (P : Program) (n : ℕ) (around : List Kind) where
   typed_part (And x xs) [] i e h at = elim h [ ]
   typed_part (And x xs) (k ∷ ks) zero e (each a as' b bs h hs) at = let same : x ≡ e = cc at in (k, subst (λ y. IsExpr P n around y k) same h)
   typed_part (And x xs) (k ∷ ks) (suc i) e (each a as' b bs h hs) at = typed_part xs ks i e hs at
+
+  typed_in_parts : (ps : Exprs) (ks : List Kind) (i : ℕ) (e : Expr) → AreParts P n around ps ks → part_at ps i ≡ Some e → (held : List Kind) × (k : Kind) × IsExpr P n held e k
+  typed_in_parts ps ks i e h at = by around ps ks i h at
+    where
+      by : (held : List Kind) (ps : Exprs) (ks : List Kind) (i : ℕ) → AreParts P n held ps ks → part_at ps i ≡ Some e → (more : List Kind) × (k : Kind) × IsExpr P n more e k
+      by held NoMore ks i h at = absurd (grind (arith, at))
+      by held (And x xs) [] i h at = absurd h
+      by held (And x xs) (k ∷ ks) zero h at = let same : x ≡ e = cc at in (held, k, subst (λ y. IsExpr P n held y k) same h.0)
+      by held (And x xs) (k ∷ ks) (suc i) h at = by (held ++ held_by (op_of x)) xs ks i h.1 at
 
   no_value : (e : EffectOp) (ps : Exprs) (k : Kind) → IsValued k → IsExpr P n around (Operation (op.Effect e) ps) k → ⊥
   no_value e ps NoKind v h = absurd v
@@ -124,9 +126,11 @@ pub effect_outside : (P : Program) (acts : List Activation) (newest : ℕ) (row 
 effect_outside P acts newest row rest e ps kept g k gs fr inside =
     let part : part_at (parts_of k.node) (length k.kept) ≡ Some (Operation fr.0 fr.1) = part_is (part_at (parts_of k.node) (length k.kept)) (Operation fr.0 fr.1) (inside.1.0 ∙ ap Some fr.4) in
     let own : part_at fr.1 (length g.kept) ≡ Some (Operation (op.Effect e) ps) = ap (λ x. part_at (parts_of x) (length g.kept)) (sym fr.4) ∙ part_is (part_at (parts_of g.node) (length g.kept)) (Operation (op.Effect e) ps) inside.0 in
-    let (kind, is) = outer gs fr.6 part in
-    no_part P row.routine row.around e ps fr.0 fr.1 kind (length g.kept) is own
+    let (held, kind, is) = outer gs fr.6 part in
+    no_part P row.routine held e ps fr.0 fr.1 kind (length g.kept) is own
   where
-    outer : (hs : List PendingFrame) → AreFrames P acts newest row (fr.2 ∷ fr.3) (k ∷ hs) → part_at (parts_of k.node) (length k.kept) ≡ Some (Operation fr.0 fr.1) → (kind : Kind) × IsExpr P row.routine row.around (Operation fr.0 fr.1) kind
-    outer [] h part = typed_part P row.routine row.around (parts_of k.node) (h.1.0 ++ (fr.2 ∷ fr.3)) (length k.kept) (Operation fr.0 fr.1) h.1.1 part
-    outer (x ∷ hs) h part = typed_part P row.routine row.around (parts_of k.node) (h.5.0 ++ (fr.2 ∷ fr.3)) (length k.kept) (Operation fr.0 fr.1) h.5.1 part
+    outer : (hs : List PendingFrame) → AreFrames P acts newest row (fr.2 ∷ fr.3) (k ∷ hs) → part_at (parts_of k.node) (length k.kept) ≡ Some (Operation fr.0 fr.1) → (held : List Kind) × (kind : Kind) × IsExpr P row.routine held (Operation fr.0 fr.1) kind
+    outer [] h part = typed_in_parts P row.routine row.around (parts_of k.node) (h.1.0 ++ (fr.2 ∷ fr.3)) (length k.kept) (Operation fr.0 fr.1) h.1.1 part
+    outer (x ∷ hs) h part =
+        let (kind, is) = typed_part P row.routine (kinds_held row (x ∷ hs)) (parts_of k.node) (h.5.0 ++ (fr.2 ∷ fr.3)) (length k.kept) (Operation fr.0 fr.1) h.5.1 part in
+        (kinds_held row (x ∷ hs), kind, is)

@@ -10,8 +10,9 @@ use Rattle.plain_pascal.specs.Operations.{part}
 use Rattle.plain_pascal.specs.Statements.{Does, held, held_in}
 use Rattle.plain_pascal.specs.Step.{effected, given}
 use Rattle.plain_pascal.specs.Typed.{IsEffect}
-use Rattle.plain_pascal.specs.Valid.{IsOf, AreOf, AtStatement, InProgress, NewestStands, IsData, IsProgram, IsWellFormed, held_by_first, kinds_held}
-use Rattle.plain_pascal.proofs.Gates.{Holding, lies_held, more_kinds, nothing_more, rehold}
+use Rattle.plain_pascal.specs.Valid.{IsOf, AreOf, AtStatement, InProgress, NewestStands, IsData, IsProgram, IsWellFormed, held_by_first, kinds_held, within}
+use Rattle.plain_pascal.proofs.Gates.{Holding, lies_held, rehold}
+use Rattle.plain_pascal.proofs.Joined.{joined_kinds, no_more_kinds}
 use Rattle.plain_pascal.proofs.Held.{effect_outside, given_more, number_of, outer_part}
 use Rattle.plain_pascal.proofs.Keeps.{at_work, effect_kind, effect_typed, operation_progress, progress_at}
 use Rattle.plain_pascal.proofs.Leaves.{HoldingJust, held_data, one_held}
@@ -53,7 +54,7 @@ module _ (P : Program) (program : IsProgram P) (d : Data) (good : IsData d) (a :
   hold_stands fs full h =
       let (done, t, ho) = effect_typed P program n cs d good a xs same (effect.Hold number words) ps kept fs full h in
       by fs (record_place done t ho) at.held (progress_at P program n cs d good a xs same own fs at)
-      (operation_progress P program n cs d good a xs same (op.Effect (effect.Hold number words)) ps kept fs NoValue full at.row (λ k js s hs. effect_kind P program n cs d good a xs same at.row (effect.Hold number words) k js s)
+      (operation_progress P program n cs d good a xs same (op.Effect (effect.Hold number words)) ps kept fs NoValue full at.row (λ k js s hs. effect_kind P program n cs d good a xs same (within at.row (kinds_held at.row (own ∷ fs))) (effect.Hold number words) k js s)
       (progress_at P program n cs d good a xs same own fs at))
     where
       at : AtStatement P (a ∷ xs) (length xs) a (record { statement = n; frames = own ∷ fs })
@@ -71,7 +72,7 @@ module _ (P : Program) (program : IsProgram P) (d : Data) (good : IsData d) (a :
           let both : length (at.row.around ++ held_by_first (length g.kept) at.row.form.parts) ≡ length at.row.around + length (held_by_first (length g.kept) at.row.form.parts) = joined_length at.row.around (held_by_first (length g.kept) at.row.form.parts) in
           let outer : number - 1 ≡ length (at.row.around ++ held_by_first (length g.kept) at.row.form.parts) = omega (arith, counted, around, both) in
           let holding : Holding P at.row.routine (at.row.around ++ held_by_first (length g.kept) at.row.form.parts) cs acts =
-          (sym at.inside, h.0, h.2, ([], subst (λ js. AreOf acts (length xs) js a.holds) (sym (nothing_more (at.row.around ++ held_by_first (length g.kept) at.row.form.parts))) hold)) in
+          (sym at.inside, h.0, h.2, ([], subst (λ js. AreOf acts (length xs) js a.holds) (sym (no_more_kinds (at.row.around ++ held_by_first (length g.kept) at.row.form.parts))) hold)) in
           let more : HoldingJust P at.row.routine ((at.row.around ++ held_by_first (length g.kept) at.row.form.parts) ++ PlaceKind words ∷ []) cs (held_in acts (number - 1) (part kept 0)) =
           one_held P at.row.routine cs (at.row.around ++ held_by_first (length g.kept) at.row.form.parts) (PlaceKind words) (part kept 0) (number - 1) acts outer holding
           (λ newest long. subst (λ m. IsOf acts m (PlaceKind words) (part kept 0)) (omega (arith, long)) place) in (
@@ -81,7 +82,7 @@ module _ (P : Program) (program : IsProgram P) (d : Data) (good : IsData d) (a :
               found = at.found;
               inside = at.inside;
               held = subst (λ js. AreOf (held_in acts (number - 1) (part kept 0)) (length xs) js (take (number - 1) a.holds ++ part kept 0 ∷ []))
-                  (more_kinds at.row.around (held_by_first (length g.kept) at.row.form.parts) (PlaceKind words ∷ []) ∙ sym (given_more at.row (op.Effect (effect.Hold number words)) ps g NoValue inside.1 inside.0)) more.3;
+                  (joined_kinds at.row.around (held_by_first (length g.kept) at.row.form.parts) (PlaceKind words ∷ []) ∙ sym (given_more at.row (op.Effect (effect.Hold number words)) ps g NoValue inside.1 inside.0)) more.3;
               frames = inr (moved_progress at.row (given NoValue (g ∷ [])) (take (number - 1) a.holds ++ part kept 0 ∷ []) after);
             }),
             more.2,

@@ -20,10 +20,11 @@ use Rattle.plain_pascal.specs.Valid.{IsOf, AreOf, LiesIn, AllWait, AtStatement, 
 use Rattle.plain_pascal.proofs.Cells.{IsLeft, dispose_after, new_after}
 use Rattle.plain_pascal.proofs.Ends.{ExitFits, exit_fits}
 use Rattle.plain_pascal.proofs.Evaluates.{checked_sound}
-use Rattle.plain_pascal.proofs.Gates.{Holding, first_held, gate_reached, goes_on, activation_held, waits_held, values_held, holding_alike, holding_scoped, loop_variable, more_kinds, nothing_more, part_word, value_small}
+use Rattle.plain_pascal.proofs.Gates.{Holding, first_held, gate_reached, goes_on, activation_held, waits_held, values_held, holding_alike, holding_scoped, loop_variable, part_word, value_small}
+use Rattle.plain_pascal.proofs.Joined.{joined_kinds, no_more_kinds}
 use Rattle.plain_pascal.proofs.Held.{all_held}
 use Rattle.plain_pascal.proofs.Inputs.{LeavesBytes, line_bytes}
-use Rattle.plain_pascal.proofs.Keeps.{at_work, progress_at, sees_at, some_part}
+use Rattle.plain_pascal.proofs.Keeps.{at_work, progress_at, sees_at, some_statement_part}
 use Rattle.plain_pascal.proofs.Kept.{as_many}
 use Rattle.plain_pascal.proofs.Places.{shorter_lies, variable_lies}
 use Rattle.plain_pascal.proofs.Sound.{GivesOf}
@@ -112,7 +113,7 @@ HoldingJust P r ks cs (a ∷ xs) = (a.routine ≡ r) × IsActivation P (a ∷ xs
 
 pub just_these : (P : Program) (r : ℕ) (ks : List Kind) (cs : List Control) (acts : List Activation) → HoldingJust P r ks cs acts → Holding P r ks cs acts
 just_these P r ks cs [] h = absurd h
-just_these P r ks cs (a ∷ xs) h = (h.0, h.1, h.2, ([], subst (λ js. AreOf (a ∷ xs) (length xs) js a.holds) (sym (nothing_more ks)) h.3))
+just_these P r ks cs (a ∷ xs) h = (h.0, h.1, h.2, ([], subst (λ js. AreOf (a ∷ xs) (length xs) js a.holds) (sym (no_more_kinds ks)) h.3))
 
 pub one_held : (P : Program) (r : ℕ) (cs : List Control) (ks : List Kind) (k : Kind) (v : Value) (outer : ℕ) (acts : List Activation) → outer ≡ length ks → Holding P r ks cs acts
     → ((newest : ℕ) → suc newest ≡ length acts → IsOf acts newest k v) → HoldingJust P r (ks ++ k ∷ []) cs (held_in acts outer v)
@@ -164,7 +165,7 @@ module _ (P : Program) (program : IsProgram P) (cs : List Control) (r : ℕ) (ar
   simple_exit o ps i d (Leaves Behind e) l h = (l.good, holding_alike P r around cs d.activations e.activations l.alike h)
   simple_exit o ps i d (Leaves (ToLabel n) e) l h = (l.good, holding_alike P r around cs d.activations e.activations l.alike h)
   simple_exit o ps i d (Leaves (Inside k) e) l h =
-      (l.good, subst (λ ks. Holding P r ks cs e.activations) (sym (nothing_more around) ∙ ap (λ ks. around ++ ks) (sym (nothing o i))) (holding_alike P r around cs d.activations e.activations l.alike h))
+      (l.good, subst (λ ks. Holding P r ks cs e.activations) (sym (no_more_kinds around) ∙ ap (λ ks. around ++ ks) (sym (nothing o i))) (holding_alike P r around cs d.activations e.activations l.alike h))
     where
       nothing : (o : StatementOp) → IsSimple o → held_inside o ps ≡ []
       nothing (stmt.For loop) i = absurd i
@@ -203,7 +204,7 @@ module _ (P : Program) (program : IsProgram P) (cs : List Control) (r : ℕ) (ar
 -- fewer kinds are held as well
 fewer_held : (P : Program) (r : ℕ) (cs : List Control) (ks js : List Kind) (acts : List Activation) → Holding P r (ks ++ js) cs acts → Holding P r ks cs acts
 fewer_held P r cs ks js [] h = absurd h
-fewer_held P r cs ks js (a ∷ xs) h = (h.0, h.1, h.2, (js ++ h.3.0, subst (λ ls. AreOf (a ∷ xs) (length xs) ls a.holds) (more_kinds ks js h.3.0) h.3.1))
+fewer_held P r cs ks js (a ∷ xs) h = (h.0, h.1, h.2, (js ++ h.3.0, subst (λ ls. AreOf (a ∷ xs) (length xs) ls a.holds) (joined_kinds ks js h.3.0) h.3.1))
 
 -- ---- the exit of a statement
 
@@ -238,18 +239,18 @@ module _ (P : Program) (program : IsProgram P) (d : Data) (good : IsData d) (a :
           → IsWellFormed P (statement_done P n (row_of P n) f kept cs d)
       by (g ∷ gs) (rest, fr, inside) held = absurd (let clash : OfStatement f ≡ OfExpr (Operation fr.0 fr.1) = fr.4 in grind (arith, clash))
       by [] (k ∷ ks, fr, inside) held =
-          absurd (let (e, found) = some_part P at.row fr.1.0 k ks f.parts fr.1.1 in
+          absurd (let (e, found) = some_statement_part P at.row.routine at.row.around fr.1.0 k ks f.parts fr.1.1 in
           let clash : None ≡ Some e = sym full ∙ ap (part_at f.parts) (as_many P (a ∷ xs) (length xs) at.row fr.1.0 kept fr.1.2) ∙ found in grind (arith, clash))
       by [] ([], fr, inside) held =
           let node_same : OfStatement f ≡ OfStatement at.row.form = fr.0 in
           let form_same : f ≡ at.row.form = cc node_same in
           let sees : Sees P d (length xs) at.row = sees_at P program n cs d good a xs same at.row at.inside (held_by_first (length kept) at.row.form.parts) held (record { node = OfStatement f; kept = kept } ∷ fs) h in
           let holding : Holding P at.row.routine (at.row.around ++ held_by_first (length kept) at.row.form.parts) cs (a ∷ xs) =
-          (sym at.inside, h.0, h.2, ([], subst (λ js. AreOf (a ∷ xs) (length xs) js a.holds) (sym (nothing_more (at.row.around ++ held_by_first (length kept) at.row.form.parts))) held)) in
+          (sym at.inside, h.0, h.2, ([], subst (λ js. AreOf (a ∷ xs) (length xs) js a.holds) (sym (no_more_kinds (at.row.around ++ held_by_first (length kept) at.row.form.parts))) held)) in
           subst (λ x. IsWellFormed P (statement_done P n x f kept cs d)) (sym at.found)
           (subst (λ x. IsWellFormed P (left P n at.row (exit_of x.op x.holds kept d) cs d)) (sym form_same)
           (exit_taken P program n cs at.row at.found d good (exit_of at.row.form.op at.row.form.holds kept d) (exit_fits at.row.form.op at.row.form.holds kept d)
           (exit_of_op P program n cs at.row at.found d good (length xs) sees at.row.form.op at.row.form.parts at.row.form.holds kept (fr.1.0 ++ []) (program.forms n at.row at.found).holds
           (subst (λ x. part_at x.parts (length kept) ≡ None) form_same full) fr.1.3
-          (subst (λ ys. AreOf ys (length xs) (fr.1.0 ++ []) kept) (sym same) (subst (λ js. AreOf (a ∷ xs) (length xs) js kept) (sym (nothing_more fr.1.0)) fr.1.2))
+          (subst (λ ys. AreOf ys (length xs) (fr.1.0 ++ []) kept) (sym same) (subst (λ js. AreOf (a ∷ xs) (length xs) js kept) (sym (no_more_kinds fr.1.0)) fr.1.2))
           (subst (λ ys. Holding P at.row.routine (at.row.around ++ held_by_first (length kept) at.row.form.parts) cs ys) (sym same) holding))))

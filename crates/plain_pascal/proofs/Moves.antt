@@ -10,8 +10,8 @@ use Rattle.plain_pascal.specs.State.{Place, Global, Local, Heap, Literal, Value,
 use Rattle.plain_pascal.specs.Memory.{from_activation, words_of}
 use Rattle.plain_pascal.specs.Operations.{part}
 use Rattle.plain_pascal.specs.Step.{given, returned_value}
-use Rattle.plain_pascal.specs.Typed.{slots_of, slots_in, result_slots, parameter_slots, IsStatement, IsOp, IsCall, result_kind}
-use Rattle.plain_pascal.specs.Valid.{IsOf, AreOf, ArePlain, LiesIn, Fits, AreFrames, InProgress, AtStatement, IsActivation, NewestStands, AllWait, kinds_held}
+use Rattle.plain_pascal.specs.Typed.{slots_of, slots_in, result_slots, parameter_slots, IsOp, IsCall, result_kind}
+use Rattle.plain_pascal.specs.Valid.{IsOf, AreOf, ArePlain, LiesIn, Fits, FitsStatement, AreFrames, InProgress, AtStatement, IsActivation, NewestStands, AllWait, kinds_held, within}
 use Rattle.plain_pascal.proofs.Kept.{value_keeps}
 use Rattle.plain_pascal.proofs.Held.{given_held, given_inside}
 
@@ -32,10 +32,13 @@ module _ (P : Program) (acts acts' : List Activation) (bound : ℕ) (keeps : (ne
   fits_moved : (newest : ℕ) → newest < bound → (row : Row) (rest : List Kind) (f : PendingFrame) (T : List Kind → Type 0) → Fits P acts newest row rest f T → Fits P acts' newest row rest f T
   fits_moved newest less row rest f T h = (h.0, h.1, values_moved newest less h.0 f.kept h.2, h.3)
 
+  statement_fits_moved : (newest : ℕ) → newest < bound → (row : Row) (rest : List Kind) (f : PendingFrame) → FitsStatement P acts newest row rest f → FitsStatement P acts' newest row rest f
+  statement_fits_moved newest less row rest f h = (h.0, h.1, values_moved newest less h.0 f.kept h.2, h.3)
+
   pub frames_moved : (newest : ℕ) → newest < bound → (row : Row) (rest : List Kind) (fs : List PendingFrame) → AreFrames P acts newest row rest fs → AreFrames P acts' newest row rest fs
   frames_moved newest less row rest [] h = absurd h
-  frames_moved newest less row rest (f ∷ []) h = (h.0, fits_moved newest less row rest f (IsStatement P row.routine row.form.op) h.1)
-  frames_moved newest less row rest (f ∷ (g ∷ fs)) h = (h.0, h.1, h.2, h.3, h.4, fits_moved newest less row rest f (λ x. IsOp P row.routine row.around h.0 x h.2) h.5, frames_moved newest less row (h.2 ∷ h.3) (g ∷ fs) h.6)
+  frames_moved newest less row rest (f ∷ []) h = (h.0, statement_fits_moved newest less row rest f h.1)
+  frames_moved newest less row rest (f ∷ (g ∷ fs)) h = (h.0, h.1, h.2, h.3, h.4, fits_moved newest less (within row (kinds_held row (g ∷ fs))) rest f (λ x. IsOp P row.routine (kinds_held row (g ∷ fs)) h.0 x h.2) h.5, frames_moved newest less row (h.2 ∷ h.3) (g ∷ fs) h.6)
 
   pub statement_moved : (newest : ℕ) → newest < bound → (a : Activation) (c : Control) → AtStatement P acts newest a c → AtStatement P acts' newest a c
   statement_moved newest less a c at = record {
@@ -123,7 +126,7 @@ module _ (P : Program) (a : Activation) (b : Activation) (xs : List Activation) 
       by rest (g ∷ gs) fr =
           let inner : OfExpr (Operation (op.Call c) ps) ≡ OfExpr (Operation fr.0 fr.1) = fr.4 in
           let op_same : fr.0 ≡ op.Call c = cc inner in
-          let call : IsCall P after.1.row.routine c (fr.5.0 ++ rest) fr.2 = subst (λ x. IsOp P after.1.row.routine after.1.row.around x (fr.5.0 ++ rest) fr.2) op_same fr.5.3 in
+          let call : IsCall P after.1.row.routine c (fr.5.0 ++ rest) fr.2 = subst (λ x. IsOp P after.1.row.routine (kinds_held after.1.row (g ∷ gs)) x (fr.5.0 ++ rest) fr.2) op_same fr.5.3 in
           let (r, form, found, has, kinds, function, kind, scope) = call in
           let here : routine_of P a.routine ≡ Some r = ap (routine_of P) (sym w.2.0) ∙ found in
           let s : Some is.row ≡ Some r = sym is.found ∙ here in

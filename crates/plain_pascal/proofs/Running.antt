@@ -1,12 +1,14 @@
 -- Runs keep a state in order, from the start of the program on.
-use Rattle.std.proofs.Common.{ℕ, zero, suc, ◌-◌, Bool, true, false, List, [], ◌∷◌, ◌++◌, Option, Some, None, refl, sym, ap, ◌∙◌, subst, arith}
+use Rattle.std.proofs.Common.{◌≡◌, ℕ, zero, suc, ◌-◌, Bool, true, false, List, [], ◌∷◌, ◌++◌, Option, Some, None, refl, sym, ap, ◌∙◌, subst, arith}
 use Rattle.plain_pascal.specs.Program.{Program, routine_of}
-use Rattle.plain_pascal.specs.State.{Status, NotStarted, Halted, Ended, Failed, Data, Control, State}
+use Rattle.plain_pascal.specs.State.{Status, NotStarted, Halted, Ended, Failed, Data, Control, State, globals_count, heap_count}
 use Rattle.plain_pascal.specs.Step.{small_step}
 use Rattle.plain_pascal.specs.Run.{Ending, Marks, Stopped, cleared, driven, ends, entry_in, event, is_full, next_gate, over_by, passed, rests, run_by, settled, started, steps_limit, unless, unless_held, unless_over, with_event}
 use Rattle.plain_pascal.specs.Typed.{slots_in}
-use Rattle.plain_pascal.specs.Valid.{AreOf, HasEntry, HasGate, IsActivation, IsData, IsProgram, IsWellFormed}
-use Rattle.plain_pascal.specs.Laws.{RunsKeep}
+use Rattle.plain_pascal.specs.Valid.{AreOf, HasEntry, HasGate, IsActivation, IsData, IsProgram, IsWellFormed, IsWord}
+use Rattle.std.specs.Prelude.{length, replicate}
+use Rattle.std.specs.List.{AllByRecursion}
+use Rattle.plain_pascal.specs.Laws.{LoadedStands, RunsKeep}
 use Rattle.plain_pascal.proofs.Gates.{gate_reached}
 use Rattle.plain_pascal.proofs.Named.{row_named}
 use Rattle.plain_pascal.proofs.Steps.{steps_keep}
@@ -88,3 +90,19 @@ module _ (P : Program) (program : IsProgram P) where
 
 pub runs_keep : RunsKeep
 runs_keep P program marks k s w = run_well P program marks k s.status s.control (cleared s.data_now) (cleared_well P program s.status s.control s.data_now w)
+
+-- ---- a program that was loaded
+
+zeros_long : (n : ℕ) → length {A = ℕ} (replicate n 0) ≡ n
+zeros_long zero = refl
+zeros_long (suc n) = ap suc (zeros_long n)
+
+zeros_words : (n : ℕ) → AllByRecursion IsWord (replicate n 0)
+zeros_words zero = tt
+zeros_words (suc n) = (omega arith, zeros_words n)
+
+pub loaded_well : LoadedStands
+loaded_well P = record {
+  data_good = record { globals_long = zeros_long globals_count; globals_words = zeros_words globals_count; heap_long = zeros_long heap_count; heap_words = zeros_words heap_count; used = omega arith; cells = tt; stack = omega arith; input = tt };
+  stands = (refl, refl);
+}

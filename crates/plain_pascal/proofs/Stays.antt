@@ -5,8 +5,8 @@ use Rattle.plain_pascal.specs.Program.{Kind, Row, RoutineRow, Program, row_of, r
 use Rattle.plain_pascal.specs.State.{OfStatement, PendingFrame, Activation, Control}
 use Rattle.plain_pascal.specs.Memory.{from_activation}
 use Rattle.plain_pascal.specs.Step.{frame_of}
-use Rattle.plain_pascal.specs.Typed.{slots_of, IsStatement, IsOp}
-use Rattle.plain_pascal.specs.Valid.{AreOf, Fits, AreFrames, InProgress, AtStatement, HasParent, IsActivation, Waits, NewestStands, AllWait, IsProgram, kinds_held}
+use Rattle.plain_pascal.specs.Typed.{slots_of, IsOp}
+use Rattle.plain_pascal.specs.Valid.{AreOf, Fits, FitsStatement, AreFrames, InProgress, AtStatement, HasParent, IsActivation, Waits, NewestStands, AllWait, IsProgram, kinds_held, within}
 use Rattle.plain_pascal.proofs.Stores.{Alike, AllAlike, same_count, drop_alike, values_alike, slots_alike}
 use Rattle.plain_pascal.proofs.Kept.{gate_keeps}
 
@@ -20,10 +20,13 @@ module _ (P : Program) (acts acts' : List Activation) (alike : AllAlike acts act
   fits_alike : (newest : ℕ) (row : Row) (rest : List Kind) (f : PendingFrame) (T : List Kind → Type 0) → Fits P acts newest row rest f T → Fits P acts' newest row rest f T
   fits_alike newest row rest f T h = (h.0, h.1, values_alike acts acts' alike newest h.0 f.kept h.2, h.3)
 
+  statement_fits_alike : (newest : ℕ) (row : Row) (rest : List Kind) (f : PendingFrame) → FitsStatement P acts newest row rest f → FitsStatement P acts' newest row rest f
+  statement_fits_alike newest row rest f h = (h.0, h.1, values_alike acts acts' alike newest h.0 f.kept h.2, h.3)
+
   frames_alike : (newest : ℕ) (row : Row) (rest : List Kind) (fs : List PendingFrame) → AreFrames P acts newest row rest fs → AreFrames P acts' newest row rest fs
   frames_alike newest row rest [] h = absurd h
-  frames_alike newest row rest (f ∷ []) h = (h.0, fits_alike newest row rest f (IsStatement P row.routine row.form.op) h.1)
-  frames_alike newest row rest (f ∷ (g ∷ fs)) h = (h.0, h.1, h.2, h.3, h.4, fits_alike newest row rest f (λ x. IsOp P row.routine row.around h.0 x h.2) h.5, frames_alike newest row (h.2 ∷ h.3) (g ∷ fs) h.6)
+  frames_alike newest row rest (f ∷ []) h = (h.0, statement_fits_alike newest row rest f h.1)
+  frames_alike newest row rest (f ∷ (g ∷ fs)) h = (h.0, h.1, h.2, h.3, h.4, fits_alike newest (within row (kinds_held row (g ∷ fs))) rest f (λ x. IsOp P row.routine (kinds_held row (g ∷ fs)) h.0 x h.2) h.5, frames_alike newest row (h.2 ∷ h.3) (g ∷ fs) h.6)
 
   statement_alike : (newest : ℕ) (a b : Activation) (c : Control) → Alike a b → AtStatement P acts newest a c → AtStatement P acts' newest b c
   statement_alike newest a b c e at = record {

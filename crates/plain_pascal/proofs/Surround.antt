@@ -12,7 +12,7 @@ use Rattle.plain_pascal.specs.Laws.{ResolvedOrder}
 use Rattle.plain_pascal.specs.Program.{Program as Table, Kind, Row, RoutineRow, body_entry, held_around, held_inside, form_in, owner_in, program_of, row_in, row_of}
 use Rattle.plain_pascal.specs.Blocks.{has_way}
 use Rattle.plain_pascal.specs.Valid.{GoesOn, HasEntry, HasGate}
-use Rattle.plain_pascal.proofs.Gates.{more_kinds, nothing_more}
+use Rattle.plain_pascal.proofs.Joined.{joined_kinds, no_more_kinds}
 use Rattle.plain_pascal.proofs.Named.{every_front, every_back, every_join, OfStatements, OfRoutines, routine_found, row_named, statement_found}
 use Rattle.plain_pascal.proofs.Chains.{rows_of, inner_of, own_of, behind_of, behind_by, around_of, next_of, sequence_of, leaving, head_of, blocks_in, blocks_inside, row_at, first_of, no_row}
 
@@ -20,10 +20,10 @@ use Rattle.plain_pascal.proofs.Chains.{rows_of, inner_of, own_of, behind_of, beh
 
 held_joined : (xs ys : List Enclosing) → held_around (xs ++ ys) ≡ held_around xs ++ held_around ys
 held_joined [] ys = refl
-held_joined (x ∷ xs) ys = ap (λ ks. held_inside x.form.op x.form.parts ++ ks) (held_joined xs ys) ∙ sym (more_kinds (held_inside x.form.op x.form.parts) (held_around xs) (held_around ys))
+held_joined (x ∷ xs) ys = ap (λ ks. held_inside x.form.op x.form.parts ++ ks) (held_joined xs ys) ∙ sym (joined_kinds (held_inside x.form.op x.form.parts) (held_around xs) (held_around ys))
 
 held_one : (f : Form) (n : ℕ) (around : List Enclosing) → held_around (around ++ record { name = n; form = f } ∷ []) ≡ held_around around ++ held_inside f.op f.parts
-held_one f n around = held_joined around (record { name = n; form = f } ∷ []) ∙ ap (λ ks. held_around around ++ ks) (nothing_more (held_inside f.op f.parts))
+held_one f n around = held_joined around (record { name = n; form = f } ∷ []) ∙ ap (λ ks. held_around around ++ ks) (no_more_kinds (held_inside f.op f.parts))
 
 held_within : (f : Form) (n : ℕ) (around : List Enclosing) → held_around (around_of (Some f) n around) ≡ held_around around ++ held_inside f.op f.parts
 held_within f n around = by f.op refl
@@ -31,7 +31,7 @@ held_within f n around = by f.op refl
     by : (o : StatementOp) → f.op ≡ o → held_around (around_inner Continuation (List Enclosing) machine_flow f o n around) ≡ held_around around ++ held_inside o f.parts
     by (stmt.For loop) e = held_one f n around ∙ ap (λ o. held_around around ++ held_inside o f.parts) e
     by stmt.With e = held_one f n around ∙ ap (λ o. held_around around ++ held_inside o f.parts) e
-    by o e = sym (nothing_more (held_around around))
+    by o e = sym (no_more_kinds (held_around around))
 
 module _ (P : Table) where
   -- a statement of a routine, with what is held around it
@@ -42,12 +42,12 @@ module _ (P : Table) where
     pub around : row.around ≡ held
 
   same_gate : (n r : ℕ) (held : List Kind) → StandsIn n r held → HasGate P r held n
-  same_gate n r held h = record { row = h.row; found = h.found; inside = h.inside; ended = []; around = sym h.around ∙ sym (nothing_more h.row.around) }
+  same_gate n r held h = record { row = h.row; found = h.found; inside = h.inside; ended = []; around = sym h.around ∙ sym (no_more_kinds h.row.around) }
 
   -- ---- more may be held
 
   gate_more : (n r : ℕ) (ks js : List Kind) → HasGate P r ks n → HasGate P r (ks ++ js) n
-  gate_more n r ks js g = record { row = g.row; found = g.found; inside = g.inside; ended = g.ended ++ js; around = ap (λ ls. ls ++ js) g.around ∙ more_kinds g.row.around g.ended js }
+  gate_more n r ks js g = record { row = g.row; found = g.found; inside = g.inside; ended = g.ended ++ js; around = ap (λ ls. ls ++ js) g.around ∙ joined_kinds g.row.around g.ended js }
 
   goes_more : (k : Continuation) (r : ℕ) (ks js : List Kind) → GoesOn P r ks k → GoesOn P r (ks ++ js) k
   goes_more (ToGate n) r ks js g = gate_more n r ks js g
@@ -71,7 +71,7 @@ module _ (P : Table) where
       where
         by : (o : StatementOp) → f.op ≡ o → StandsIn n r (held_around around) → (begins_within (Some f) o ≡ true → StandsIn (first_entry ss) r (held_around (around_of (Some f) n around))) → StandsIn (entry_by (Some f) o n (first_entry ss)) r (held_around around)
         by stmt.Repeat e own inner =
-            subst (λ ks. StandsIn (first_entry ss) r ks) (held_within f n around ∙ ap (λ o. held_around around ++ held_inside o f.parts) e ∙ nothing_more (held_around around)) (inner refl)
+            subst (λ ks. StandsIn (first_entry ss) r ks) (held_within f n around ∙ ap (λ o. held_around around ++ held_inside o f.parts) e ∙ no_more_kinds (held_around around)) (inner refl)
         by o e own inner = own
 
     first_stands : (ss : Statements) → 0 < count ss → AreWhole ss → (f : Option Form) (r : ℕ) (behind : Continuation) (around : List Enclosing) → AllByRecursion (IsFound P) (inner_of ss f r behind around) → StandsIn (first_entry ss) r (held_around around)

@@ -4,7 +4,7 @@ use Rattle.core_tree.specs.Plain.{Routine}
 use Rattle.plain_machine.specs.Meaning.{IsClosed}
 use Rattle.plain_machine.specs.Pauses.{drive, drive_from, gates_on, go_on}
 use Rattle.plain_pascal.specs.Program.{Program, program_of}
-use Rattle.plain_pascal.specs.State.{Halted, Place, Value, Data, Control, State}
+use Rattle.plain_pascal.specs.State.{Halted, Place, Value, Data, Control, State, loaded_state}
 use Rattle.core_tree.specs.declared.op.Storage.{Storage}
 use Rattle.plain_pascal.specs.Statements.{assigned}
 use Rattle.plain_pascal.specs.Step.{small_step}
@@ -57,6 +57,10 @@ NextRunsAreStretches = (x : Routine) (m : ℕ) → IsResolved x m → (marks : M
 -- each step keeps a state in order
 abbrev pub StepsKeep : Type 0
 StepsKeep = (P : Program) → IsProgram P → (s : State) → IsWellFormed P s → IsWellFormed P (small_step P s)
+
+-- a program that was loaded is in a state in order
+abbrev pub LoadedStands : Type 0
+LoadedStands = (P : Program) → IsWellFormed P loaded_state
 
 -- a run keeps a state in order, from the start of the program on
 abbrev pub RunsKeep : Type 0

@@ -24,8 +24,8 @@ use Rattle.core_tree.specs.declared.form.StatementOp.TheVariants as stmt
 use Rattle.core_tree.specs.declared.form.Parameter.{Parameter}
 use Rattle.core_tree.specs.declared.form.Parameter.TheVariants as parameter
 use Rattle.core_tree.specs.declared.form.RoutineForm.{RoutineForm}
-use Rattle.core_tree.specs.Plain.{Expr, Operation, Exprs, NoMore, And}
-use Rattle.plain_pascal.specs.Program.{Kind, NoKind, WordKind, SetKind, PlaceKind, Row, RoutineRow, Program, routine_of}
+use Rattle.core_tree.specs.Plain.{Expr, Operation, Exprs, NoMore, And, op_of}
+use Rattle.plain_pascal.specs.Program.{Kind, NoKind, WordKind, SetKind, PlaceKind, Row, RoutineRow, Program, held_by, routine_of}
 use Rattle.plain_pascal.specs.Integers.{is_integer}
 use Rattle.plain_pascal.specs.State.{globals_count}
 use Rattle.std.specs.List.{AllByRecursion}
@@ -239,10 +239,16 @@ AreNumbered last NoMore = Unit {0}
 AreNumbered last (And (Operation (op.Effect (effect.Hold number words)) ps) es) = (number ≡ suc last) × AreNumbered (suc last) es
 AreNumbered last (And e es) = AreNumbered last es
 
+-- the parts of a statement, each in the holds around it and those of the parts before it
+abbrev pub AreParts : Program → ℕ → List Kind → Exprs → List Kind → Type 0
+AreParts P n around NoMore [] = Unit {0}
+AreParts P n around (And e es) (k ∷ ks) = IsExpr P n around e k × AreParts P n (around ++ held_by (op_of e)) es ks
+AreParts P n around es ks = ⊥
+
 -- a statement's form, where it stands
 pub record IsForm (P : Program) (row : Row) : Type 0 where
   pub kinds : List Kind
-  pub parts : AreExprs P row.routine row.around row.form.parts kinds
+  pub parts : AreParts P row.routine row.around row.form.parts kinds
   pub statement : IsStatement P row.routine row.form.op kinds
   pub holds : row.form.holds ≡ length row.around
   pub numbered : AreNumbered row.form.holds row.form.parts

@@ -12,7 +12,7 @@ use Rattle.plain_pascal.specs.State.{Status, NotStarted, Halted, Place, Global, 
 use Rattle.plain_pascal.specs.Memory.{from_activation, words_of}
 use Rattle.plain_pascal.specs.Step.{stack_charges, stack_room, parts_of, label_gate, labels_in}
 use Rattle.plain_pascal.specs.Blocks.{AreInside, has_way}
-use Rattle.plain_pascal.specs.Typed.{slots_of, AreExprs, IsOp, IsStatement, IsForm}
+use Rattle.plain_pascal.specs.Typed.{slots_of, AreExprs, AreParts, IsOp, IsStatement, IsForm}
 
 abbrev pub IsWord : ℕ → Type 0
 IsWord w = w < 65536
@@ -45,28 +45,6 @@ AreOf acts newest ks vs = ⊥
 
 -- ---- one activation
 
--- a frame has values for the first parts of its node, and values of these kinds are still to come; T is what the kinds of
--- all parts are for
-abbrev pub Fits : Program → List Activation → ℕ → Row → List Kind → PendingFrame → (List Kind → Type 0) → Type 0
-Fits P acts newest row rest f T = (done : List Kind) × AreExprs P row.routine row.around (parts_of f.node) (done ++ rest) × AreOf acts newest done f.kept × T (done ++ rest)
-
--- the outermost frame is the statement's, and the value of each other one is the next that the frame outside wants
-abbrev pub AreFrames : Program → List Activation → ℕ → Row → List Kind → List PendingFrame → Type 0
-AreFrames P acts newest row rest [] = ⊥
-AreFrames P acts newest row rest (f ∷ []) = (f.node ≡ OfStatement row.form) × Fits P acts newest row rest f (IsStatement P row.routine row.form.op)
-AreFrames P acts newest row rest (f ∷ (g ∷ fs)) =
-    (o : Op) × (ps : Exprs) × (k : Kind) × (ks : List Kind) × (f.node ≡ OfExpr (Operation o ps))
-    × Fits P acts newest row rest f (λ kinds. IsOp P row.routine row.around o kinds k) × AreFrames P acts newest row (k ∷ ks) (g ∷ fs)
-
--- the innermost frame is a call of a routine, with all its arguments
-abbrev pub CallsIn : Node → ℕ → ℕ → Type 0
-CallsIn (OfExpr (Operation (op.Call c) ps)) n kept = (c.routine.0 ≡ n) × (part_at ps kept ≡ None)
-CallsIn x n kept = ⊥
-
-abbrev pub Waits : List PendingFrame → ℕ → Type 0
-Waits [] n = ⊥
-Waits (f ∷ fs) n = CallsIn f.node n (length f.kept)
-
 -- the parts of a statement that are done
 abbrev pub parts_done : List PendingFrame → ℕ
 parts_done [] = 0
@@ -82,6 +60,36 @@ held_by_first (suc k) (And (Operation o ps) es) = held_by o ++ held_by_first k e
 -- what is held at a statement: the holds around it, and those of its parts that are done
 abbrev pub kinds_held : Row → List PendingFrame → List Kind
 kinds_held row fs = row.around ++ held_by_first (parts_done fs) row.form.parts
+
+-- the same statement, with so much held around it
+abbrev pub within : Row → List Kind → Row
+within row held = record row { around = held }
+
+-- a frame has values for the first parts of its node, and values of these kinds are still to come; T is what the kinds of
+-- all parts are for
+abbrev pub Fits : Program → List Activation → ℕ → Row → List Kind → PendingFrame → (List Kind → Type 0) → Type 0
+Fits P acts newest row rest f T = (done : List Kind) × AreExprs P row.routine row.around (parts_of f.node) (done ++ rest) × AreOf acts newest done f.kept × T (done ++ rest)
+
+-- the same of the frame of a statement
+abbrev pub FitsStatement : Program → List Activation → ℕ → Row → List Kind → PendingFrame → Type 0
+FitsStatement P acts newest row rest f = (done : List Kind) × AreParts P row.routine row.around (parts_of f.node) (done ++ rest) × AreOf acts newest done f.kept × IsStatement P row.routine row.form.op (done ++ rest)
+
+-- the outermost frame is the statement's, and the value of each other one is the next that the frame outside wants
+abbrev pub AreFrames : Program → List Activation → ℕ → Row → List Kind → List PendingFrame → Type 0
+AreFrames P acts newest row rest [] = ⊥
+AreFrames P acts newest row rest (f ∷ []) = (f.node ≡ OfStatement row.form) × FitsStatement P acts newest row rest f
+AreFrames P acts newest row rest (f ∷ (g ∷ fs)) =
+    (o : Op) × (ps : Exprs) × (k : Kind) × (ks : List Kind) × (f.node ≡ OfExpr (Operation o ps))
+    × Fits P acts newest (within row (kinds_held row (g ∷ fs))) rest f (λ kinds. IsOp P row.routine (kinds_held row (g ∷ fs)) o kinds k) × AreFrames P acts newest row (k ∷ ks) (g ∷ fs)
+
+-- the innermost frame is a call of a routine, with all its arguments
+abbrev pub CallsIn : Node → ℕ → ℕ → Type 0
+CallsIn (OfExpr (Operation (op.Call c) ps)) n kept = (c.routine.0 ≡ n) × (part_at ps kept ≡ None)
+CallsIn x n kept = ⊥
+
+abbrev pub Waits : List PendingFrame → ℕ → Type 0
+Waits [] n = ⊥
+Waits (f ∷ fs) n = CallsIn f.node n (length f.kept)
 
 -- a statement is in progress: each frame is of the next part of the one outside it
 abbrev pub InProgress : Program → List Activation → ℕ → Row → List PendingFrame → Type 0

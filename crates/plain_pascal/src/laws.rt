@@ -1,5 +1,5 @@
 //! Laws of the plain machine, each the contract of a function that does nothing.
-ghost use Rattle.plain_pascal.specs.Laws.{AssignmentsKeep, FirstRunsAreStretches, FirstRunsRest, LinksLead, NextRunsAreStretches, ResolvedOrder, RunsAreStretches, RunsKeep, RunsRest, RunsSplit, StepsKeep};
+ghost use Rattle.plain_pascal.specs.Laws.{AssignmentsKeep, FirstRunsAreStretches, FirstRunsRest, LinksLead, LoadedStands, NextRunsAreStretches, ResolvedOrder, RunsAreStretches, RunsKeep, RunsRest, RunsSplit, StepsKeep};
 
 /// A run of `j + k` gates is one of `j` gates, and then one of `k` gates where it was stopped.
 pub fn runs_split()
@@ -21,10 +21,12 @@ pub fn runs_are_stretches()
     ensures links { LinksLead }
 {}
 
-/// Each step of a program in order keeps a state in order, and so does a run; and an assignment of each kind. A resolved
-/// program whose operations have parts of their kinds is in order.
+/// A loaded program is in a state in order. Each step of a program in order keeps a state in order,
+/// and so do a run and an assignment of each kind. A resolved program whose operations have parts of
+/// their kinds is in order.
 pub fn steps_keep()
     ensures steps { StepsKeep }
+    ensures loaded { LoadedStands }
     ensures runs { RunsKeep }
     ensures order { ResolvedOrder }
     ensures assignments { AssignmentsKeep }
