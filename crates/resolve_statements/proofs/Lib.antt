@@ -4,5 +4,7 @@ pub mod Fitting
 pub mod Keeping
 pub mod Layers
 pub mod Opened
+pub mod Over
 pub mod Pushing
+pub mod Rows
 pub mod Targets
