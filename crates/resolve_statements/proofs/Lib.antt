@@ -1,4 +1,5 @@
 pub mod Arguments
+pub mod Begins
 mod Examples
 pub mod Fitting
 pub mod Keeping

@@ -15,7 +15,7 @@ use Rattle.core_tree.specs.declared.form.ForLoop.{ForLoop}
 use Rattle.core_tree.specs.declared.form.StatementOp.{StatementOp}
 use Rattle.core_tree.specs.declared.form.StatementOp.TheVariants as stmt
 use Rattle.core_tree.specs.declared.program.LinkEnd.{LinkEnd}
-use Rattle.core_tree.specs.Control.{link_flow, statement_rows, inner_rows, next_in, in_sequence, after_inner, around_inner, first_entry}
+use Rattle.core_tree.specs.Control.{CoreRow, link_flow, statement_rows, inner_rows, next_in, in_sequence, after_inner, around_inner, first_entry}
 use Rattle.core_tree.specs.Plain.{Form, Heading, Statement, Statements, Last, Then}
 use Rattle.core_tree.specs.Shapes.{ShapeTree}
 use Rattle.check_rules.specs.Typing.{bounds_of}
@@ -124,16 +124,29 @@ module _ (trees : List ShapeTree) (headings : ℕ → Heading) where
       rows_by k (StmtKind-F.While e x) (ap out-StmtKind is ∙ s.outs-While e x) c n p
       ∙ append-nil (stmt_rows x c (turn_place n p) trees headings)
 
-  pub if_rows : (k : StmtKind) (e : Expr) (x : Stmt) → k ≡ s.If e x None → (c : Context) (n : Name) (p : Place)
-      → kind_rows k c n p trees headings ≡ stmt_rows x c p trees headings
-  if_rows k e x is c n p =
-      rows_by k (StmtKind-F.If e x None) (ap out-StmtKind is ∙ s.outs-If e x None) c n p ∙ append-nil (stmt_rows x c p trees headings)
+  -- what stands behind `else`
+  abbrev pub other_rows : Option Stmt → Context → Place → List CoreRow
+  other_rows None c p = []
+  other_rows (Some y) c p = stmt_rows y c p trees headings
 
-  pub else_rows : (k : StmtKind) (e : Expr) (x y : Stmt) → k ≡ s.If e x (Some y) → (c : Context) (n : Name) (p : Place)
+  if_by : (e : Expr) (x : Stmt) (o : Option Stmt) (c : Context) (n : Name) (p : Place)
+      → rows_inside (option_map (plain_form trees headings) (form_in (λ (a : ArmBody). a.constants) (over trees headings (StmtKind-F.If e x o)) c)) (inner_of (over trees headings (StmtKind-F.If e x o)) c) n p
+      ≡ stmt_rows x c p trees headings ++ other_rows o c p
+  if_by e x None c n p = refl
+  if_by e x (Some y) c n p = ap (λ zs. stmt_rows x c p trees headings ++ zs) (append-nil (stmt_rows y c p trees headings))
+
+  pub if_rows : (k : StmtKind) (e : Expr) (x : Stmt) (o : Option Stmt) → k ≡ s.If e x o → (c : Context) (n : Name) (p : Place)
+      → kind_rows k c n p trees headings ≡ stmt_rows x c p trees headings ++ other_rows o c p
+  if_rows k e x o is c n p = rows_by k (StmtKind-F.If e x o) (ap out-StmtKind is ∙ s.outs-If e x o) c n p ∙ if_by e x o c n p
+
+  pub if_alone : (k : StmtKind) (e : Expr) (x : Stmt) (o : Option Stmt) → k ≡ s.If e x o → o ≡ None → (c : Context) (n : Name) (p : Place)
+      → kind_rows k c n p trees headings ≡ stmt_rows x c p trees headings
+  if_alone k e x o is none c n p =
+      if_rows k e x o is c n p ∙ (ap (λ z. stmt_rows x c p trees headings ++ other_rows z c p) none ∙ append-nil (stmt_rows x c p trees headings))
+
+  pub if_else : (k : StmtKind) (e : Expr) (x y : Stmt) (o : Option Stmt) → k ≡ s.If e x o → o ≡ Some y → (c : Context) (n : Name) (p : Place)
       → kind_rows k c n p trees headings ≡ stmt_rows x c p trees headings ++ stmt_rows y c p trees headings
-  else_rows k e x y is c n p =
-      rows_by k (StmtKind-F.If e x (Some y)) (ap out-StmtKind is ∙ s.outs-If e x (Some y)) c n p
-      ∙ ap (λ zs. stmt_rows x c p trees headings ++ zs) (append-nil (stmt_rows y c p trees headings))
+  if_else k e x y o is some c n p = if_rows k e x o is c n p ∙ ap (λ z. stmt_rows x c p trees headings ++ other_rows z c p) some
 
   pub case_rows : (k : StmtKind) (e : Expr) (arms : List Arm) → k ≡ s.Case e arms → (c : Context) (n : Name) (p : Place)
       → kind_rows k c n p trees headings ≡ arms_rows arms c p trees headings

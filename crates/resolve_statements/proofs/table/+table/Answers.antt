@@ -1,4 +1,4 @@
-use Rattle.std.proofs.Common.{◌≡◌, ◌+◌, [], ◌++◌, Some, None, Ok, Err, map, length, drop, ap, sym, subst, ◌∙◌}
+use Rattle.std.proofs.Common.{◌≡◌, ◌+◌, [], ◌++◌, Some, None, Ok, Err, map, length, drop, refl, ap, sym, subst, ◌∙◌}
 use Rattle.pascal_tree.specs.declared.stmt.Stmt.{out-Stmt}
 use Rattle.pascal_tree.specs.declared.stmt.StmtKind.TheVariants as s
 use Rattle.resolve_statements.specs.Forms.{context_in_for, context_with, context_closed, context_holding}
@@ -65,13 +65,24 @@ push_inner-returns-in-Compound-clause-rows t c =
     (subst (λ ss. PushedOver c.push_sequence.result c.args.out.now c.push_sequence.new.out (stmts_rows ss c.args.context.now c.args.place)) c.as_slice.ensures c.push_sequence.ensures.rows)
 
 pub push_inner-returns-in-Err-clause-rows : goal.push_inner-returns-in-Err-clause-rows
-push_inner-returns-in-Err-clause-rows t c = ?
+push_inner-returns-in-Err-clause-rows t c =
+    ended_first _ _ c.in-Err.end _ c.push_statement.new.out _ _ (λ tr h. rows.other_rows tr h c.in-If.other c.args.context.now c.args.place) _
+    (λ tr h. rows.if_rows tr h c.args.kind.now c.in-If.field-0 c.in-If.first c.in-If.other c.in-If.is c.args.context.now c.args.name c.args.place)
+    (subst (λ x. PushedOver {U = Unit {0}} (Err c.in-Err.end) c.args.out.now c.push_statement.new.out (stmt_rows x c.args.context.now c.args.place)) c.get.ensures c.in-Err.ensures.rows)
 
 pub push_inner-returns-in-None-clause-rows : goal.push_inner-returns-in-None-clause-rows
-push_inner-returns-in-None-clause-rows t c = ?
+push_inner-returns-in-None-clause-rows t c =
+    same_over {U = Unit {0}} (Ok tt) _ _ _ _
+    (λ tr h. rows.if_alone tr h c.args.kind.now c.in-If.field-0 c.in-If.first c.in-If.other c.in-If.is c.in-None.is c.args.context.now c.args.name c.args.place)
+    (subst (λ x. PushedOver {U = Unit {0}} (Ok tt) c.args.out.now c.push_statement.new.out (stmt_rows x c.args.context.now c.args.place)) c.get.ensures c.in-Ok.ensures.rows)
 
 pub push_inner-returns-in-Some-clause-rows : goal.push_inner-returns-in-Some-clause-rows
-push_inner-returns-in-Some-clause-rows t c = ?
+push_inner-returns-in-Some-clause-rows t c =
+    after_first {V = Unit {0}} c.push_statement-in-Some.result tt _ _ _ _ _ _
+    (λ tr h. rows.if_else tr h c.args.kind.now c.in-If.field-0 c.in-If.first c.in-Some.second c.in-If.other c.in-If.is c.in-Some.is c.args.context.now c.args.name c.args.place)
+    (subst (λ x. PushedOver {U = Unit {0}} (Ok tt) c.args.out.now c.push_statement.new.out (stmt_rows x c.args.context.now c.args.place)) c.get.ensures c.in-Ok.ensures.rows)
+    (moved c.push_statement-in-Some.result c.push_statement.new.out c.push_statement-in-Some.new.out c.get-in-Some.result.now c.in-Some.second c.push_statement.new.context c.args.context.now c.args.place c.args.place
+    c.get-in-Some.ensures c.in-Ok.ensures.kept refl c.push_statement-in-Some.ensures.rows)
 
 pub push_inner-returns-in-Case-clause-rows : goal.push_inner-returns-in-Case-clause-rows
 push_inner-returns-in-Case-clause-rows t c =
