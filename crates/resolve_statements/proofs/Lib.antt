@@ -1,7 +1,9 @@
 pub mod Arguments
 pub mod Begins
+pub mod Gates
 mod Examples
 pub mod Fitting
+pub mod Heads
 pub mod Keeping
 pub mod Layers
 pub mod Opened

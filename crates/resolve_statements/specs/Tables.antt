@@ -93,10 +93,14 @@ abbrev pub kind_rows : StmtKind → Context → Name → Place → RowsOver
 kind_rows k c n p trees headings =
     rows_inside (option_map (plain_form trees headings) ((kind_body trees headings k).form c)) ((kind_body trees headings k).inner c) n p
 
-abbrev pub stmts_in : List Stmt → Context → List ShapeTree → (ℕ → Heading) → Statements
+-- statements in what stands around them
+abbrev pub InnerOver : Type 0
+InnerOver = Context → List ShapeTree → (ℕ → Heading) → Statements
+
+abbrev pub stmts_in : List Stmt → InnerOver
 stmts_in ss c trees headings = statements_in (map (statement_of trees headings) ss) c
 
-abbrev pub arms_in : List Arm → Context → List ShapeTree → (ℕ → Heading) → Statements
+abbrev pub arms_in : List Arm → InnerOver
 arms_in arms c trees headings = statements_in (map (λ a. a.body) (map (arm_body trees headings) arms)) c
 
 abbrev pub stmts_rows : List Stmt → Context → Place → RowsOver
@@ -139,9 +143,9 @@ pub record IsBefore (ss : List Stmt) (p q : Place) : Type 0 where
   pub over : (trees : List ShapeTree) (headings : ℕ → Heading) (c : Context) → q ≡ place_before (stmts_in ss c trees headings) p
 
 -- the numbers of these are added to those
-pub record AreEntries (old new : List Name) (inner : Context → List ShapeTree → (ℕ → Heading) → Statements) : Type 0 where
+pub record AreEntries (old new : List Name) (inner : InnerOver) : Type 0 where
   pub over : (trees : List ShapeTree) (headings : ℕ → Heading) (c : Context)
       → map (λ m. m.0) new ≡ map (λ m. m.0) old ++ entries_of (inner c trees headings)
 
-abbrev pub inner_in : StmtKind → Context → List ShapeTree → (ℕ → Heading) → Statements
+abbrev pub inner_in : StmtKind → InnerOver
 inner_in k c trees headings = (kind_body trees headings k).inner c

@@ -68,16 +68,21 @@ pub fn push_inner_entries(kind: &StmtKind, out: &mut Items<Name>) -> Result<(), 
 {
     match kind {
         StmtKind::Compound(stmts) => push_entries(stmts.as_slice(), out),
-        StmtKind::If(_, first, None) => push_entry(first.get(), out),
-        StmtKind::If(_, first, Some(second)) => {
+        StmtKind::If(_, first, other) => {
             push_entry(first.get(), out)?;
-            push_entry(second.get(), out)
+            match other {
+                None => Ok(()),
+                Some(second) => push_entry(second.get(), out),
+            }
         }
         StmtKind::Case(_, arms) => push_arm_entries(arms.as_slice(), out),
         StmtKind::While(_, body) => push_entry(body.get(), out),
         StmtKind::Repeat(stmts, _) => push_entries(stmts.as_slice(), out),
         StmtKind::For(_, _, _, _, body) => push_entry(body.get(), out),
         StmtKind::With(_, body) => push_entry(body.get(), out),
-        _ => Ok(()),
+        StmtKind::Empty => Ok(()),
+        StmtKind::Assign(_, _) => Ok(()),
+        StmtKind::Call(_, _) => Ok(()),
+        StmtKind::Goto(_) => Ok(()),
     }
 }
