@@ -1,5 +1,5 @@
 -- Where the statements directly in one begin, gathered in turn.
-use Rattle.std.proofs.Common.{◌≡◌, ◌<◌, ◌≤◌, ℕ, ◌+◌, Bool, List, [], ◌∷◌, ◌++◌, length, map, drop, get_or, Option, Some, None, refl, ap, sym, ◌∙◌, append_assoc, append-nil}
+use Rattle.std.proofs.Common.{◌≡◌, ◌<◌, ◌≤◌, OnOk, Result, Ok, Err, ℕ, ◌+◌, Bool, List, [], ◌∷◌, ◌++◌, length, map, drop, get_or, Option, Some, None, refl, ap, sym, ◌∙◌, append_assoc, append-nil}
 use Rattle.dice_base.specs.declared.name.Name.{Name}
 use Rattle.pascal_tree.specs.declared.expr.Expr.{Expr}
 use Rattle.pascal_tree.specs.declared.expr.Access.{Access}
@@ -157,3 +157,7 @@ else_entries k old middle new e x y v w o is some first second before more = rec
       ∙ ap (λ es. map (λ m. m.0) old ++ es)
       (sym (inner_by t h k (StmtKind-F.If e x (Some y)) (ap out-StmtKind (is ∙ ap (s.If e x) some) ∙ s.outs-If e x (Some y)) c))))));
 }
+
+pub on_ok : {A E : Type 0} (r : Result A E) (P Q : Type 0) → (P → Q) → OnOk r P → OnOk r Q
+on_ok (Ok x) P Q f p = f p
+on_ok (Err e) P Q f p = p
