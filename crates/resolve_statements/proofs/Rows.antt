@@ -33,7 +33,6 @@ use Rattle.resolve_statements.proofs.Over.{rest_whole, drop_turn, drop_end}
 
 -- ---- what stands directly in a statement
 
-
 in_line : (ss : Statements) (p : Place) → inner_rows LinkEnd (Option ℕ) link_flow ss None p.routine.0 p.after (around_of p) ≡ sequence_rows ss p
 in_line Last p = refl
 in_line (Then x ss) p =

@@ -138,7 +138,13 @@ fn push_inner(
             push_statement(alloc, context, body.get(), turn_place(name, place), out)
         }
         StmtKind::Repeat(stmts, _) => {
-            push_sequence(alloc, context, stmts.as_slice(), turn_place(name, place), out)
+            push_sequence(
+                alloc,
+                context,
+                stmts.as_slice(),
+                turn_place(name, place),
+                out,
+            )
         }
         StmtKind::For(_, _, _, _, body) => {
             let holds = context.env.holds;
