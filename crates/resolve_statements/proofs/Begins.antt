@@ -1,22 +1,20 @@
 -- Where statements begin, by their kinds.
-use Rattle.std.proofs.Common.{◌≡◌, ◌<◌, ℕ, ◌+◌, Bool, true, false, List, [], ◌∷◌, ◌++◌, length, map, drop, get_or, Option, Some, None, option_map, refl, ap, sym, subst, ◌∙◌, append_assoc}
+use Rattle.std.proofs.Common.{◌≡◌, ℕ, Bool, true, false, List, [], ◌∷◌, map, Option, Some, None, option_map, refl, ap, sym, ◌∙◌}
 use Rattle.dice_base.specs.declared.name.Name.{Name}
 use Rattle.pascal_tree.specs.declared.expr.Expr.{Expr}
-use Rattle.pascal_tree.specs.declared.expr.Access.{Access}
 use Rattle.pascal_tree.specs.declared.expr.Arg.{Arg}
 use Rattle.pascal_tree.specs.declared.stmt.Stmt.{Stmt, out-Stmt}
 use Rattle.pascal_tree.specs.declared.stmt.StmtKind.{StmtKind, StmtKind-F, out-StmtKind, roll-StmtKind, roll-out-StmtKind}
 use Rattle.pascal_tree.specs.declared.stmt.StmtKind.TheVariants as s
-use Rattle.pascal_tree.specs.declared.stmt.Arm.{Arm, out-Arm}
-use Rattle.check_rules.specs.Typing.{Text, domain_of}
+use Rattle.pascal_tree.specs.declared.stmt.Arm.{Arm}
+use Rattle.check_rules.specs.Typing.{domain_of}
 use Rattle.check_rules.specs.declared.typing.Domain.{Domain}
 use Rattle.check_rules.specs.declared.entity.Entity.{Entity}
 use Rattle.check_rules.specs.declared.entity.Entity.TheVariants.{ConstantOf, TypeOf, VariableOf, FileOf, FieldOf, RoutineOf, StandardOf}
 use Rattle.check_rules.specs.declared.entity.Standard.{Standard}
 use Rattle.check_rules.specs.declared.entity.Standard.TheVariants as standard
-use Rattle.core_tree.specs.declared.form.StatementForm.{StatementForm}
 use Rattle.core_tree.specs.declared.form.StatementOp.{StatementOp}
-use Rattle.core_tree.specs.Control.{entry_by, op_in, first_entry, entry_of, entries_of}
+use Rattle.core_tree.specs.Control.{entry_by, op_in, first_entry, entry_of}
 use Rattle.core_tree.specs.Plain.{Form, Heading, Statements}
 use Rattle.core_tree.specs.Shapes.{ShapeTree}
 use Rattle.expression_rules.specs.Accesses.{entity_at}
@@ -25,9 +23,9 @@ use Rattle.resolve_expr.specs.Nodes.{Node, Argument, place_or_lost}
 use Rattle.resolve_expr.specs.Expressions.{node_of, argument_of}
 use Rattle.resolve_statements.specs.Forms.{heap_form_of, new_form, dispose_form, for_form}
 use Rattle.resolve_statements.specs.Statements.{form_in, standard_form, call_form_of, call_form}
-use Rattle.resolve_statements.specs.Bodies.{KindBody, ArmBody, in_kind, inner_of, plain_form, statement_of, arm_body, kind_body}
+use Rattle.resolve_statements.specs.Bodies.{KindBody, ArmBody, in_kind, inner_of, plain_form, statement_of}
 use Rattle.resolve_statements.specs.Tables.{BeginsAt, FirstBeginsAt, stmts_in}
-use Rattle.resolve_statements.proofs.Layers.{over, kind_layer, arm_layer, stmt_layer}
+use Rattle.resolve_statements.proofs.Layers.{over, kind_layer, stmt_layer}
 use Rattle.resolve_statements.proofs.Rows.{for_op}
 
 -- a statement of this operation begins at its own gate

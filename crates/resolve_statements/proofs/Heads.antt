@@ -1,5 +1,5 @@
 -- The row of a statement by itself, by what its form becomes.
-use Rattle.std.proofs.Common.{◌≡◌, ℕ, List, [], ◌∷◌, ◌++◌, map, Option, Some, None, option_map, unwrap_or, Result, Ok, Err, refl, ap, sym, ◌∙◌, arith}
+use Rattle.std.proofs.Common.{◌≡◌, ℕ, List, [], Option, Some, None, option_map, unwrap_or, Result, Ok, refl, ap, sym, ◌∙◌, arith}
 use Rattle.dice_base.specs.declared.name.Name.{Name}
 use Rattle.pascal_tree.specs.declared.stmt.StmtKind.{StmtKind}
 use Rattle.check_rules.specs.declared.fault.CheckEnd.{CheckEnd}
@@ -14,7 +14,7 @@ use Rattle.resolve_statements.specs.declared.form.KeptForm.{KeptForm}
 use Rattle.resolve_statements.specs.declared.place.Place.{Place}
 use Rattle.resolve_statements.specs.Forms.{kept_form}
 use Rattle.resolve_statements.specs.Statements.{own_form}
-use Rattle.resolve_statements.specs.Bodies.{plain_form, kind_body}
+use Rattle.resolve_statements.specs.Bodies.{plain_form}
 use Rattle.resolve_statements.specs.Tables.{PushedOver, AreEntries, around_of, own_rows, head_rows, inner_in}
 use Rattle.resolve_statements.proofs.Layers.{form_is}
 use Rattle.resolve_statements.proofs.Over.{same_over, none_over}

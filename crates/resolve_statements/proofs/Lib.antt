@@ -1,8 +1,8 @@
 pub mod Arguments
 pub mod Begins
-pub mod Gates
 mod Examples
 pub mod Fitting
+pub mod Gates
 pub mod Heads
 pub mod Keeping
 pub mod Layers
@@ -10,4 +10,5 @@ pub mod Opened
 pub mod Over
 pub mod Pushing
 pub mod Rows
+mod Tabled
 pub mod Targets

@@ -1,5 +1,5 @@
 -- The rows of a statement by its kind.
-use Rattle.std.proofs.Common.{◌≡◌, ◌<◌, ◌≤◌, ℕ, ◌+◌, Bool, true, false, List, [], ◌∷◌, ◌++◌, ◌-◌, length, map, take, drop, get_or, Option, Some, None, option_map, refl, ap, sym, ◌∙◌, append-nil}
+use Rattle.std.proofs.Common.{◌≡◌, ◌<◌, ◌≤◌, ℕ, ◌+◌, Bool, List, [], ◌++◌, ◌-◌, length, map, take, drop, get_or, Option, Some, None, option_map, refl, ap, sym, ◌∙◌, append-nil}
 use Rattle.dice_base.specs.declared.name.Name.{Name}
 use Rattle.pascal_tree.specs.declared.expr.Expr.{Expr}
 use Rattle.pascal_tree.specs.declared.expr.Access.{Access}
@@ -12,7 +12,6 @@ use Rattle.check_rules.specs.Typing.{Text}
 use Rattle.check_rules.specs.declared.entity.Entity.{Entity}
 use Rattle.check_rules.specs.declared.entity.Entity.TheVariants.{ConstantOf, TypeOf, VariableOf, FileOf, FieldOf, RoutineOf, StandardOf}
 use Rattle.core_tree.specs.declared.form.ForLoop.{ForLoop}
-use Rattle.core_tree.specs.declared.form.StatementOp.{StatementOp}
 use Rattle.core_tree.specs.declared.form.StatementOp.TheVariants as stmt
 use Rattle.core_tree.specs.declared.program.LinkEnd.{LinkEnd}
 use Rattle.core_tree.specs.Control.{CoreRow, link_flow, statement_rows, inner_rows, next_in, in_sequence, after_inner, around_inner, first_entry}
@@ -26,8 +25,8 @@ use Rattle.resolve_expr.specs.Expressions.{node_of}
 use Rattle.resolve_statements.specs.declared.place.Place.{Place}
 use Rattle.resolve_statements.specs.Forms.{loop_over, lost_loop, for_form, for_form_of, context_in_for, context_with}
 use Rattle.resolve_statements.specs.Statements.{form_in, access_node}
-use Rattle.resolve_statements.specs.Bodies.{KindBody, ArmBody, in_kind, inner_of, plain_form, statement_of, arm_body}
-use Rattle.resolve_statements.specs.Tables.{RowsOver, around_of, sequence_rows, branch_rows, rows_inside, stmts_in, arms_in, stmt_rows, stmts_rows, arm_rows, arms_rows, head_rows, kind_rows, place_before, turn_place, step_place, end_place, IsBefore}
+use Rattle.resolve_statements.specs.Bodies.{KindBody, ArmBody, in_kind, inner_of, plain_form, statement_of}
+use Rattle.resolve_statements.specs.Tables.{around_of, sequence_rows, branch_rows, rows_inside, stmts_in, arms_in, stmt_rows, stmts_rows, arm_rows, arms_rows, head_rows, kind_rows, place_before, turn_place, step_place, end_place, IsBefore}
 use Rattle.resolve_statements.proofs.Layers.{over, kind_layer, arm_layer, stmt_layer}
 use Rattle.resolve_statements.proofs.Over.{rest_whole, drop_turn, drop_end}
 

@@ -1,5 +1,5 @@
 -- The rows of the table of blocks that statements of a body give, in what stands around them.
-use Rattle.std.specs.Prelude.{ℕ, ◌≡◌, List, [], ◌∷◌, ◌++◌, map, Option, Some, None, option_map, Result, Ok, Err}
+use Rattle.std.specs.Prelude.{ℕ, ◌≡◌, List, [], ◌++◌, map, Option, Some, None, option_map, Result, Ok, Err}
 use Rattle.dice_base.specs.declared.name.Name.{Name}
 use Rattle.pascal_tree.specs.declared.stmt.Stmt.{Stmt}
 use Rattle.pascal_tree.specs.declared.stmt.StmtKind.{StmtKind}

@@ -1,4 +1,4 @@
-use Rattle.std.proofs.Common.{◌≡◌, [], Some, ap, sym, subst, ◌∙◌}
+use Rattle.std.proofs.Common.{subst}
 use Rattle.resolve_statements.specs.Tables.{AreEntries, inner_in}
 use Rattle.resolve_statements.proofs.Heads.{no_head, some_head}
 use Rattle.resolve_statements.proofs.blocks.push_head.Goals as goal

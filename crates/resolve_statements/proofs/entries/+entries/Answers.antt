@@ -1,4 +1,3 @@
-use Rattle.pascal_tree.specs.declared.stmt.Stmt.{out-Stmt}
 use Rattle.resolve_statements.proofs.Begins.{begins_own, begins_compound, begins_repeat}
 use Rattle.resolve_statements.proofs.entries.+entries.Goals as goal
 

@@ -1,9 +1,8 @@
-use Rattle.std.proofs.Common.{◌≡◌, ◌+◌, [], ◌++◌, Some, None, Ok, Err, map, length, drop, refl, ap, sym, subst, ◌∙◌}
+use Rattle.std.proofs.Common.{Ok, Err, map, refl, ap, subst, ◌∙◌}
 use Rattle.pascal_tree.specs.declared.stmt.Stmt.{out-Stmt}
-use Rattle.pascal_tree.specs.declared.stmt.StmtKind.TheVariants as s
-use Rattle.resolve_statements.specs.Forms.{context_in_for, context_with, context_closed, context_holding}
+use Rattle.resolve_statements.specs.Forms.{context_in_for, context_with}
 use Rattle.resolve_statements.specs.Statements.{access_node}
-use Rattle.resolve_statements.specs.Tables.{PushedOver, stmt_rows, stmts_rows, arm_rows, arms_rows, head_rows, kind_rows, turn_place, step_place, end_place}
+use Rattle.resolve_statements.specs.Tables.{PushedOver, stmt_rows, stmts_rows, arm_rows, arms_rows, kind_rows, step_place, end_place}
 use Rattle.resolve_statements.proofs.Opened.{closed_again}
 use Rattle.resolve_statements.proofs.Over.{same_over, after_first, ended_first, none_over, begun, turned, stopped, all_reached, moved}
 use Rattle.resolve_statements.proofs.Rows as rows
