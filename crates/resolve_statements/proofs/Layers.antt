@@ -11,7 +11,7 @@ use Rattle.resolve_statements.specs.Statements.{form_in, own_form, arm_constants
 use Rattle.resolve_statements.specs.Bodies.{Body, KindBody, ArmBody, in_kind, in_arm, in_stmt, statement_of, kind_body, arm_body}
 
 module _ (trees : List ShapeTree) (headings : ℕ → Heading) where
-  abbrev over : StmtKind-F StmtKind Arm Stmt → StmtKind-F KindBody ArmBody Body
+  abbrev pub over : StmtKind-F StmtKind Arm Stmt → StmtKind-F KindBody ArmBody Body
   over x = map-StmtKind StmtKind Arm Stmt KindBody ArmBody Body (kind_body trees headings) (arm_body trees headings) (statement_of trees headings) x
 
   pub kind_layer : (k : StmtKind) → kind_body trees headings k ≡ in_kind (over (out-StmtKind k))

@@ -33,6 +33,11 @@ closed_with c records =
     closed_from c records (length c.env.opened) c.env.holds (omega arith)
     ∙ ap (λ (o : List OpenedRecord). record c { env = record (c.env) { opened = o; holds = c.env.holds } }) (take_all c.env.opened)
 
+pub closed_again : (c d e : Context) (records : List AccessNode) (n : ℕ) → e ≡ context_closed d n c.env.holds → d ≡ context_with c records → n ≡ length c.env.opened → e ≡ c
+closed_again c d e records n closed within count =
+    closed ∙ (ap (λ (x : Context). context_closed x n c.env.holds) within
+    ∙ (ap (λ k. context_closed (context_with c records) k c.env.holds) count ∙ closed_with c records))
+
 -- one record more
 pub with_snoc : (c : Context) (records : List AccessNode) (a : AccessNode) → context_with c (records ++ a ∷ []) ≡ context_opening (context_with c records) (a (context_with c records)).typing
 with_snoc c [] a = refl

@@ -192,6 +192,9 @@ for_form c x down a b = for_form_of c down a b (entity_at c.env x)
 abbrev pub context_in_for : Context → Context
 context_in_for c = record c { env = record (c.env) { holds = c.env.holds + 1 } }
 
+abbrev pub context_holding : Context → ℕ → Context
+context_holding c holds = record c { env = record (c.env) { holds = holds } }
+
 -- ---- `with` (6.8.3.10): each record takes a hold, and stands behind those before it
 
 abbrev pub env_opening : Env → Typing → Env

@@ -10,17 +10,16 @@ use Rattle.core_tree.specs.declared.form.CoreForm.{CoreForm}
 use Rattle.core_tree.specs.declared.form.CoreForm.TheVariants as block
 use Rattle.core_tree.specs.declared.form.StatementForm.{StatementForm}
 use Rattle.core_tree.specs.declared.program.CoreBlock.{CoreBlock}
-use Rattle.core_tree.specs.declared.program.CoreRoutine.{CoreRoutine}
 use Rattle.core_tree.specs.declared.program.LinkEnd.{LinkEnd}
-use Rattle.core_tree.specs.Control.{CoreRow, link_flow, own_row, statement_rows, inner_rows, next_in, first_entry, after_in, around_in}
-use Rattle.core_tree.specs.Lookups.{routine_of}
+use Rattle.core_tree.specs.declared.program.LinkEnd.TheVariants as link
+use Rattle.core_tree.specs.Control.{CoreRow, link_flow, own_row, statement_rows, inner_rows, next_in, first_entry, entry_of, entries_of, after_in, around_in}
 use Rattle.core_tree.specs.Plain.{Form, Heading, Statements, Last, Then}
 use Rattle.core_tree.specs.Shapes.{ShapeTree}
-use Rattle.core_tree.specs.Views.{bare_form, block_row, heading_by}
+use Rattle.core_tree.specs.Views.{bare_form, form_over}
 use Rattle.resolve_expr.specs.declared.context.Context.{Context}
 use Rattle.resolve_statements.specs.declared.place.Place.{Place}
-use Rattle.resolve_statements.specs.Bodies.{Body, plain_form, statement_of, kind_body, arm_body}
-use Rattle.resolve_statements.specs.Sizes.{form_fault}
+use Rattle.resolve_statements.specs.Bodies.{statements_in, plain_form, statement_of, kind_body, arm_body}
+use Rattle.resolve_statements.specs.Sizes.{form_fault, Pushed}
 
 -- what is made of an own form for a block of this name, or the first of its limits that it passes
 abbrev pub Formed : Result CoreForm CheckEnd → Name → StatementForm → Type 0
@@ -45,41 +44,108 @@ branch_rows Last p = []
 branch_rows (Then s ss) p =
     statement_rows LinkEnd (Option ℕ) link_flow s p.routine.0 p.after (around_of p) ++ branch_rows ss p
 
--- with these shapes as the table of types, and these routines
-module _ (trees : List ShapeTree) (routines : List CoreRoutine) where
-  abbrev pub headings : ℕ → Heading
-  headings n = heading_by trees (routine_of routines n)
+-- the rows of blocks, over the shapes of the table of types and the headings of routines
+abbrev pub RowsOver : Type 0
+RowsOver = List ShapeTree → (ℕ → Heading) → List CoreRow
 
-  abbrev pub rows_of : List CoreBlock → List CoreRow
-  rows_of blocks = map (block_row trees routines) blocks
+abbrev pub row_over : List ShapeTree → (ℕ → Heading) → CoreBlock → CoreRow
+row_over trees headings b = record {
+  name = b.name.0;
+  routine = b.routine.0;
+  around = option_map (λ n. n.0) b.around;
+  next = b.next;
+  entries = map (λ n. n.0) b.entries;
+  form = form_over trees headings b.form;
+}
 
-  abbrev pub form_of : StatementForm → Form
-  form_of = plain_form trees headings
+abbrev pub rows_of : List CoreBlock → RowsOver
+rows_of blocks trees headings = map (row_over trees headings) blocks
 
-  -- the row of a statement by itself
-  abbrev pub own_rows : Name → Place → List Name → Option StatementForm → List CoreRow
-  own_rows n p entries f =
-      own_row LinkEnd (Option ℕ) link_flow (option_map form_of f) n.0 p.routine.0 (map (λ m. m.0) entries) p.after (around_of p)
+-- such rows are pushed, whatever the shapes and the headings are
+pub record PushedOver {U : Type 0} (result : Result U CheckEnd) (old new : List CoreBlock) (rows : RowsOver) : Type 0 where
+  pub over : (trees : List ShapeTree) (headings : ℕ → Heading)
+      → Pushed result (rows_of old trees headings) (rows_of new trees headings) (rows trees headings)
 
-  abbrev pub body_of : Stmt → Body
-  body_of = statement_of trees headings
+-- the row of a statement by itself, at which the statements directly in it begin; a compound has none
+abbrev pub own_rows : Name → Place → List Name → Option StatementForm → RowsOver
+own_rows n p entries f trees headings =
+    own_row LinkEnd (Option ℕ) link_flow (option_map (plain_form trees headings) f) n.0 p.routine.0 (map (λ m. m.0) entries) p.after (around_of p)
 
-  abbrev pub inner_in : StmtKind → Context → Statements
-  inner_in k = (kind_body trees headings k).inner
+-- that of a statement of this kind and name
+abbrev pub head_rows : StmtKind → Context → Name → Place → RowsOver
+head_rows k c n p trees headings =
+    own_row LinkEnd (Option ℕ) link_flow (option_map (plain_form trees headings) ((kind_body trees headings k).form c)) n.0 p.routine.0
+    (entries_of ((kind_body trees headings k).inner c)) p.after (around_of p)
 
-  abbrev pub arm_of : Arm → Body
-  arm_of a = (arm_body trees headings a).body
+-- a statement, with all in it
+abbrev pub stmt_rows : Stmt → Context → Place → RowsOver
+stmt_rows s c p trees headings =
+    statement_rows LinkEnd (Option ℕ) link_flow (statement_of trees headings s c) p.routine.0 p.after (around_of p)
 
-  -- a statement, with all in it
-  abbrev pub stmt_rows : Stmt → Context → Place → List CoreRow
-  stmt_rows s c p = statement_rows LinkEnd (Option ℕ) link_flow (body_of s c) p.routine.0 p.after (around_of p)
+-- what stands in a statement of this name, form and place
+abbrev pub rows_inside : Option Form → Statements → Name → Place → List CoreRow
+rows_inside f inner n p =
+    inner_rows LinkEnd (Option ℕ) link_flow inner f p.routine.0
+    (after_in LinkEnd (Option ℕ) link_flow f n.0 (first_entry inner) p.after)
+    (around_in LinkEnd (Option ℕ) link_flow f n.0 (around_of p))
 
-  -- what stands in a statement of this name, form and place
-  abbrev pub rows_inside : Option Form → Statements → Name → Place → List CoreRow
-  rows_inside f inner n p =
-      inner_rows LinkEnd (Option ℕ) link_flow inner f p.routine.0
-      (after_in LinkEnd (Option ℕ) link_flow f n.0 (first_entry inner) p.after)
-      (around_in LinkEnd (Option ℕ) link_flow f n.0 (around_of p))
+abbrev pub kind_rows : StmtKind → Context → Name → Place → RowsOver
+kind_rows k c n p trees headings =
+    rows_inside (option_map (plain_form trees headings) ((kind_body trees headings k).form c)) ((kind_body trees headings k).inner c) n p
 
-  abbrev pub kind_rows : StmtKind → Context → Name → Place → List CoreRow
-  kind_rows k c n p = rows_inside (option_map form_of ((kind_body trees headings k).form c)) (inner_in k c) n p
+-- statements in what stands around them
+abbrev pub InnerOver : Type 0
+InnerOver = Context → List ShapeTree → (ℕ → Heading) → Statements
+
+abbrev pub stmts_in : List Stmt → InnerOver
+stmts_in ss c trees headings = statements_in (map (statement_of trees headings) ss) c
+
+abbrev pub arms_in : List Arm → InnerOver
+arms_in arms c trees headings = statements_in (map (λ a. a.body) (map (arm_body trees headings) arms)) c
+
+abbrev pub stmts_rows : List Stmt → Context → Place → RowsOver
+stmts_rows ss c p trees headings = sequence_rows (stmts_in ss c trees headings) p
+
+-- the statement of an arm
+abbrev pub arm_rows : Arm → Context → Place → RowsOver
+arm_rows a c p trees headings =
+    statement_rows LinkEnd (Option ℕ) link_flow ((arm_body trees headings a).body c) p.routine.0 p.after (around_of p)
+
+abbrev pub arms_rows : List Arm → Context → Place → RowsOver
+arms_rows arms c p trees headings = branch_rows (arms_in arms c trees headings) p
+
+-- ---- places in a statement
+
+-- before these statements of a sequence
+abbrev pub place_before : Statements → Place → Place
+place_before ss p = record p { after = next_in LinkEnd (Option ℕ) link_flow ss p.after }
+
+-- in a `while` or a `repeat` of this name
+abbrev pub turn_place : Name → Place → Place
+turn_place n p = record p { after = link.Gate n }
+
+-- in a `for`, and in a `with`
+abbrev pub step_place : Name → Place → Place
+step_place n p = record p { after = link.Step n; around = Some n }
+
+abbrev pub end_place : Name → Place → Place
+end_place n p = record p { after = link.End n; around = Some n }
+
+-- ---- where statements begin, whatever stands around them
+
+pub record BeginsAt (s : Stmt) (n : Name) : Type 0 where
+  pub over : (trees : List ShapeTree) (headings : ℕ → Heading) (c : Context) → entry_of (statement_of trees headings s c) ≡ n.0
+
+pub record FirstBeginsAt (ss : List Stmt) (n : Name) : Type 0 where
+  pub over : (trees : List ShapeTree) (headings : ℕ → Heading) (c : Context) → first_entry (stmts_in ss c trees headings) ≡ n.0
+
+pub record IsBefore (ss : List Stmt) (p q : Place) : Type 0 where
+  pub over : (trees : List ShapeTree) (headings : ℕ → Heading) (c : Context) → q ≡ place_before (stmts_in ss c trees headings) p
+
+-- the numbers of these are added to those
+pub record AreEntries (old new : List Name) (inner : InnerOver) : Type 0 where
+  pub over : (trees : List ShapeTree) (headings : ℕ → Heading) (c : Context)
+      → map (λ m. m.0) new ≡ map (λ m. m.0) old ++ entries_of (inner c trees headings)
+
+abbrev pub inner_in : StmtKind → InnerOver
+inner_in k c trees headings = (kind_body trees headings k).inner c

@@ -154,8 +154,8 @@ fn close_opened(opened: &mut Items<OpenedRecord>, count: usize)
     }
 }
 
-// Closes all records but the first so many.
-fn close_records(context: &mut Context, count: usize, holds: u32)
+/// Closes all records but the first so many.
+pub fn close_records(context: &mut Context, count: usize, holds: u32)
     ensures { context.new ≡ spec.context_closed context.old count holds }
 {
     close_opened(&mut context.env.opened, count);
