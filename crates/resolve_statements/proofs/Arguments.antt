@@ -1,5 +1,5 @@
 -- Arguments by their parts, over the tree.
-use Rattle.std.proofs.Common.{IfOk, Result, ◌≡◌, ◌<◌, Bool, true, false, List, [], ◌∷◌, ◌++◌, ℕ, zero, suc, ◌+◌, length, map, drop, get_or, Option, Some, None, is_some, option_map, refl, ap, sym, ◌∙◌, arith}
+use Rattle.std.proofs.Common.{IfOk, Result, ◌≡◌, ◌<◌, true, false, List, [], ◌∷◌, ◌++◌, ℕ, zero, suc, ◌+◌, length, map, drop, get_or, Option, Some, None, is_some, option_map, refl, ap, sym, ◌∙◌, arith}
 use Rattle.pascal_tree.specs.declared.expr.Arg.{Arg, out-Arg, map-Arg}
 use Rattle.pascal_tree.specs.declared.expr.Expr.{Expr}
 use Rattle.pascal_tree.specs.declared.expr.SumExpr.{SumExpr}
@@ -20,12 +20,10 @@ use Rattle.resolve_expr.specs.declared.context.Context.{Context}
 use Rattle.resolve_expr.specs.Nodes.{Resolved, Accessed, Argument, place_or_lost}
 use Rattle.resolve_expr.specs.Expressions as nodes
 use Rattle.pascal_tree.specs.declared.stmt.Arm.{Arm, out-Arm}
-use Rattle.pascal_tree.specs.declared.stmt.StmtKind.TheFolds.{fold_out-Arm}
-use Rattle.pascal_tree.specs.declared.stmt.Constant.{Constant as WrittenConstant}
 use Rattle.dice_base.specs.declared.fault.NoMemory.{NoMemory}
 use Rattle.resolve_statements.specs.declared.form.KeptForm.{KeptForm}
 use Rattle.resolve_statements.specs.Forms.{kept_form, case_label, case_labels, heap_form, new_form, dispose_form}
-use Rattle.resolve_statements.specs.Statements.{FormRule, Any, in_kind, in_arm, in_stmt, arm_constants, own_form, any_of}
+use Rattle.resolve_statements.specs.Statements.{arm_constants}
 
 judged_by : (env : Env) (v : Expr) (w : Option Expr) → is_some (rules.in_arg env (map-Arg AccessPart Factor Access AddPart Arg Expr MulPart RelPart SetMember SumExpr Term rules.Step judged.Value judged.Reached rules.Adding judged.Argument judged.Value rules.Multiplying rules.Relation rules.Member judged.Value judged.Value (judgements.part_of env) (judgements.factor_of env) (judgements.access_of env) (judgements.adding_of env) (judgements.argument_of env) (judgements.value_of env) (judgements.multiplying_of env) (judgements.relation_of env) (judgements.member_of env) (judgements.sum_of env) (judgements.term_of env) (record { value = v; width = w }))).width ≡ is_some w
 judged_by env v None = refl
@@ -53,10 +51,6 @@ value_in c a = ap (λ z. z.value) (argument_is c a)
 pub width_of : (c : Context) (a : Arg) → (nodes.argument_of c a).width ≡ option_map (nodes.value_of c) (out-Arg a).width
 width_of c a = ap (λ x. x.width) (argument_is c a)
 
-pub constants_are : (a : Arm) → arm_constants a ≡ (out-Arm a).constants
-unfolding arm_constants
-constants_are a = fold_out-Arm FormRule (List WrittenConstant) Any in_kind in_arm in_stmt a
-
 value_is : (c : Context) (a x : Arg) → x ≡ a → (nodes.argument_of c a).value ≡ nodes.value_of c (out-Arg x).value
 value_is c a x is = value_in c a ∙ ap (λ y. nodes.value_of c (out-Arg y).value) (sym is)
 
@@ -78,7 +72,7 @@ pub arms_turn : (env : Env) (n : ℕ) (arms : List Arm) (i : ℕ) (x : Arm) → 
     → case_labels env n (map arm_constants (drop i arms)) ≡ map (case_label env n) (out-Arm x).constants ++ case_labels env (n + 1) (map arm_constants (drop (i + 1) arms))
 arms_turn env n [] i x inside is = absurd (omega (arith, inside))
 arms_turn env n (y ∷ ys) zero x inside is =
-    ap (λ ks. map (case_label env n) ks ++ case_labels env (n + 1) (map arm_constants ys)) (constants_are y ∙ ap (λ z. (out-Arm z).constants) (sym is))
+    ap (λ ks. map (case_label env n) ks ++ case_labels env (n + 1) (map arm_constants ys)) (ap (λ z. (out-Arm z).constants) (sym is))
 arms_turn env n (y ∷ ys) (suc i) x inside is =
     let next : suc i + 1 ≡ suc (i + 1) = omega arith in
     arms_turn env n ys i x (omega (arith, inside)) is

@@ -4,7 +4,7 @@
 --   var x : integer; r : pair; p : link;
 --   function f(c : char) : integer;
 --   begin .. { level 1: the statements stand here, in a `for` } end;
-use Rattle.std.proofs.Common.{ℕ, ◌≡◌, pos, negsuc, true, false, List, [], ◌∷◌, Some, None, refl, codes}
+use Rattle.std.proofs.Common.{ℕ, ◌≡◌, pos, negsuc, true, false, [], ◌∷◌, Some, None, refl, codes}
 use Rattle.dice_base.specs.declared.name.Name.{Name}
 use Rattle.pascal_tree.specs.declared.expr.Prefix.TheVariants as prefix
 use Rattle.pascal_tree.specs.declared.stmt.Constant.TheVariants as written
@@ -23,12 +23,11 @@ use Rattle.core_tree.specs.declared.op.Written.TheVariants as kind
 use Rattle.core_tree.specs.declared.op.WordOp.TheVariants as word
 use Rattle.core_tree.specs.declared.op.Op.TheVariants as op
 use Rattle.core_tree.specs.declared.op.CoreExpr.{CoreExpr}
-use Rattle.core_tree.specs.declared.form.CaseLabel.{CaseLabel}
 use Rattle.core_tree.specs.declared.form.StatementOp.TheVariants as stmt
 use Rattle.core_tree.specs.declared.shape.Shape.TheVariants as shape
 use Rattle.resolve_expr.specs.declared.context.Context.{Context}
 use Rattle.resolve_expr.specs.Kept.{operation}
-use Rattle.resolve_expr.specs.Nodes.{Node, Resolved, Argument, node, leaf, resolved, variable_node, loaded, number_node, accessed}
+use Rattle.resolve_expr.specs.Nodes.{Argument, node, leaf, resolved, variable_node, loaded, number_node, accessed}
 use Rattle.resolve_statements.specs.declared.calls.Transfer.TheVariants.{Reading, Writing}
 use Rattle.resolve_statements.specs.Forms.{form, target_node, assign_form, transfer_form, dispose_form, case_labels, for_form, with_form}
 

@@ -1,14 +1,11 @@
 -- Parts, one longer; targets; arguments.
-use Rattle.std.proofs.Common.{◌≡◌, ℕ, ◌<◌, if◌then◌else◌, Bool, true, false, List, [], ◌∷◌, ◌++◌, length, map, take, get_or, Option, refl, ap, sym, ◌∙◌, arith}
+use Rattle.std.proofs.Common.{◌≡◌, ◌<◌, if◌then◌else◌, Bool, true, false, List, [], ◌∷◌, length, map, refl, ap, ◌∙◌, arith}
 use Rattle.pascal_tree.specs.declared.expr.Access.{Access, out-Access}
-use Rattle.pascal_tree.specs.declared.expr.Arg.{Arg, out-Arg}
-use Rattle.pascal_tree.specs.declared.expr.AccessPart.TheFolds.{fold_out-Access, fold_out-Arg}
-use Rattle.core_tree.specs.declared.op.CoreExpr.{CoreExpr}
-use Rattle.check_rules.specs.declared.entity.Entity.{Entity}
+use Rattle.pascal_tree.specs.declared.expr.AccessPart.TheFolds.{fold_out-Access}
 use Rattle.expression_rules.specs.Accesses.{is_nil, entity_at}
 use Rattle.resolve_expr.specs.declared.context.Context.{Context}
-use Rattle.resolve_expr.specs.Nodes.{Node, Resolved, Accessed, Argument}
-use Rattle.resolve_expr.specs.Expressions.{Step, Adding, Multiplying, Relation, Member, in_part, in_factor, in_access, in_adding, in_arg, in_expr, in_multiplying, in_relation, in_member, in_sum, in_term, access_of, part_of, argument_of, value_of}
+use Rattle.resolve_expr.specs.Nodes.{Resolved, Accessed, Argument}
+use Rattle.resolve_expr.specs.Expressions.{Step, Adding, Multiplying, Relation, Member, in_part, in_factor, in_access, in_adding, in_arg, in_expr, in_multiplying, in_relation, in_member, in_sum, in_term, access_of, part_of}
 use Rattle.resolve_statements.specs.Forms.{target_of, target_node}
 
 access_is : (c : Context) (a : Access) → access_of c a ≡ in_access c (record { ident = (out-Access a).ident; parts = map (part_of c) (out-Access a).parts })

@@ -1,6 +1,6 @@
 -- Statements without their identifiers (ISO 7185:1990, 6.8 and 6.9): a rule for each form, whose expressions stand resolved
 -- already. What breaks a rule of the check has no meaning here, and is given any form.
-use Rattle.std.specs.Prelude.{ℕ, ◌+◌, min, ℤ, Bool, true, false, ◌&&◌, not, if◌then◌else◌, List, [], ◌∷◌, ◌++◌, map, take, Option, Some, None, is_some}
+use Rattle.std.specs.Prelude.{ℕ, ◌+◌, min, ℤ, pos, Bool, true, false, if◌then◌else◌, List, [], ◌∷◌, ◌++◌, map, take, Option, Some, None}
 use Rattle.pascal_tree.specs.declared.stmt.Constant.{Constant as WrittenConstant}
 use Rattle.check_rules.specs.declared.typing.Host.{Host}
 use Rattle.check_rules.specs.declared.typing.Host.TheVariants as host
@@ -8,10 +8,8 @@ use Rattle.check_rules.specs.declared.typing.Typing.{Typing}
 use Rattle.check_rules.specs.declared.typing.Domain.{Domain}
 use Rattle.check_rules.specs.declared.entity.Variable.{Variable}
 use Rattle.check_rules.specs.declared.entity.RoutineEntity.{RoutineEntity}
-use Rattle.check_rules.specs.declared.entity.Standard.{Standard}
-use Rattle.check_rules.specs.declared.entity.Standard.TheVariants as standard
 use Rattle.check_rules.specs.declared.entity.Entity.{Entity}
-use Rattle.check_rules.specs.declared.entity.Entity.TheVariants.{VariableOf, RoutineOf, StandardOf}
+use Rattle.check_rules.specs.declared.entity.Entity.TheVariants.{VariableOf, RoutineOf}
 use Rattle.check_rules.specs.Typing.{Table, Text, bounds_of, words_of, host_of, string_length, domain_of}
 use Rattle.check_types.specs.Constants.{constant_from, number_in}
 use Rattle.expression_rules.specs.declared.notes.Env.{Env}
@@ -19,6 +17,7 @@ use Rattle.expression_rules.specs.Accesses.{entity_at, domain_type}
 use Rattle.core_tree.specs.declared.op.CoreExpr.{CoreExpr}
 use Rattle.core_tree.specs.declared.op.Op.TheVariants as op
 use Rattle.core_tree.specs.declared.op.PlaceOp.TheVariants as place
+use Rattle.core_tree.specs.declared.op.Scope.TheVariants as scope
 use Rattle.core_tree.specs.declared.op.EffectOp.{EffectOp}
 use Rattle.core_tree.specs.declared.op.EffectOp.TheVariants as effect
 use Rattle.core_tree.specs.declared.op.Written.{Written}
@@ -169,10 +168,22 @@ abbrev pub loop_over : Context → Variable → Bool → ℤ × ℤ → ForLoop
 loop_over c v down (first, last) =
     record { variable = variable_place c v; first = first; last = last; down = down }
 
+-- what is no variable: the first word of the program's, which has the value 0 alone
+abbrev pub lost_loop : Bool → ForLoop
+lost_loop down = record {
+  variable = record { scope = scope.Program; offset = 0; by_place = false; frame_words = 0 };
+  first = pos 0;
+  last = pos 0;
+  down = down;
+}
+
+abbrev pub for_form_with : Context → ForLoop → Option Shape → Node → Node → StatementForm
+for_form_with c loop s a b = form c (stmt.For loop) s (a.expr ∷ (b.expr ∷ []))
+
 abbrev pub for_form_of : Context → Bool → Node → Node → Option Entity → StatementForm
 for_form_of c down a b (Some (VariableOf v)) =
-    form c (stmt.For (loop_over c v down (bounds_of c.env.table v.typing))) (shape_of v.typing) (a.expr ∷ (b.expr ∷ []))
-for_form_of c down a b e = lost_form c
+    for_form_with c (loop_over c v down (bounds_of c.env.table v.typing)) (shape_of v.typing) a b
+for_form_of c down a b e = for_form_with c (lost_loop down) None a b
 
 abbrev pub for_form : Context → Text → Bool → Node → Node → StatementForm
 for_form c x down a b = for_form_of c down a b (entity_at c.env x)

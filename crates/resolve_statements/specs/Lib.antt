@@ -1,2 +1,5 @@
+pub mod Bodies
 pub mod Forms
+pub mod Sizes
 pub mod Statements
+pub mod Tables

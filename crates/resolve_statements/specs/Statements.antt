@@ -1,10 +1,9 @@
 -- The own forms of statements: the rules over the tree.
-use Rattle.std.specs.Prelude.{ℕ, Bool, true, false, ◌&&◌, not, if◌then◌else◌, List, [], ◌∷◌, map, Option, Some, None, is_some}
+use Rattle.std.specs.Prelude.{Bool, true, false, ◌&&◌, not, if◌then◌else◌, List, [], ◌∷◌, map, Option, Some, None, is_some}
 use Rattle.pascal_tree.specs.declared.expr.Arg.{Arg}
 use Rattle.pascal_tree.specs.declared.stmt.Constant.{Constant as WrittenConstant}
-use Rattle.pascal_tree.specs.declared.stmt.Stmt.{Stmt, Stmt-F, fold-Stmt}
-use Rattle.pascal_tree.specs.declared.stmt.StmtKind.{StmtKind, StmtKind-F, fold-StmtKind}
-use Rattle.pascal_tree.specs.declared.stmt.Arm.{Arm, Arm-F, fold-Arm}
+use Rattle.pascal_tree.specs.declared.stmt.StmtKind.{StmtKind, StmtKind-F, out-StmtKind}
+use Rattle.pascal_tree.specs.declared.stmt.Arm.{Arm, out-Arm}
 use Rattle.pascal_tree.specs.declared.expr.Access.{Access}
 use Rattle.check_rules.specs.declared.entity.StandardFile.{StandardFile}
 use Rattle.check_rules.specs.declared.entity.StandardFile.TheVariants as file
@@ -64,35 +63,23 @@ access_node a c = (access_of c a).place
 abbrev pub FormRule : Type 0
 FormRule = Context → Option StatementForm
 
-abbrev pub in_kind : {S : Type 0} → StmtKind-F FormRule (List WrittenConstant) S → FormRule
-in_kind StmtKind-F.Empty c = Some (form c stmt.Empty None [])
-in_kind (StmtKind-F.Assign a e) c = Some (assign_form c (target_node c (access_of c a)) (node_of c e))
-in_kind (StmtKind-F.Call x args) c = Some (call_form c x args)
-in_kind (StmtKind-F.Goto label) c = Some (form c (stmt.Goto label) None [])
-in_kind (StmtKind-F.Compound ss) c = None
-in_kind (StmtKind-F.If e s other) c = Some (value_form c (stmt.If (is_some other)) (node_of c e))
-in_kind (StmtKind-F.Case e arms) c = Some (case_form c (node_of c e) arms)
-in_kind (StmtKind-F.While e s) c = Some (value_form c stmt.While (node_of c e))
-in_kind (StmtKind-F.Repeat ss e) c = Some (value_form c stmt.Repeat (node_of c e))
-in_kind (StmtKind-F.For x first down last s) c = Some (for_form c x down (node_of c first) (node_of c last))
-in_kind (StmtKind-F.With records s) c = Some (with_form c (map access_node records))
+-- where the constants of an arm are told from what it became
+abbrev pub form_in : {K A S : Type 0} → (A → List WrittenConstant) → StmtKind-F K A S → FormRule
+form_in constants StmtKind-F.Empty c = Some (form c stmt.Empty None [])
+form_in constants (StmtKind-F.Assign a e) c = Some (assign_form c (target_node c (access_of c a)) (node_of c e))
+form_in constants (StmtKind-F.Call x args) c = Some (call_form c x args)
+form_in constants (StmtKind-F.Goto label) c = Some (form c (stmt.Goto label) None [])
+form_in constants (StmtKind-F.Compound ss) c = None
+form_in constants (StmtKind-F.If e s other) c = Some (value_form c (stmt.If (is_some other)) (node_of c e))
+form_in constants (StmtKind-F.Case e arms) c = Some (case_form c (node_of c e) (map constants arms))
+form_in constants (StmtKind-F.While e s) c = Some (value_form c stmt.While (node_of c e))
+form_in constants (StmtKind-F.Repeat ss e) c = Some (value_form c stmt.Repeat (node_of c e))
+form_in constants (StmtKind-F.For x first down last s) c = Some (for_form c x down (node_of c first) (node_of c last))
+form_in constants (StmtKind-F.With records s) c = Some (with_form c (map access_node records))
 
-abbrev pub in_arm : {S : Type 0} → Arm-F FormRule (List WrittenConstant) S → List WrittenConstant
-in_arm a = a.constants
-
--- a statement in another has no part in its form
-pub data Any : Type 0 where
-  Inner : Any
-
-abbrev pub in_stmt : Stmt-F FormRule (List WrittenConstant) Any → Any
-in_stmt s = Inner
+abbrev pub arm_constants : Arm → List WrittenConstant
+arm_constants a = (out-Arm a).constants
 
 -- the own form of a statement of this kind
 unfoldable pub own_form : StmtKind → FormRule
-own_form = fold-StmtKind FormRule (List WrittenConstant) Any in_kind in_arm in_stmt
-
-unfoldable pub arm_constants : Arm → List WrittenConstant
-arm_constants = fold-Arm FormRule (List WrittenConstant) Any in_kind in_arm in_stmt
-
-unfoldable pub any_of : Stmt → Any
-any_of = fold-Stmt FormRule (List WrittenConstant) Any in_kind in_arm in_stmt
+own_form k = form_in arm_constants (out-StmtKind k)

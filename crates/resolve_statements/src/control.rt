@@ -1,8 +1,6 @@
 //! `case`, `for` and `with` (ISO 7185:1990, 6.8.3.5, 6.8.3.9 and 6.8.3.10).
 ghost use Rattle.std.specs.Prelude.{◌≡◌, ◌+◌, ◌++◌, List, map, IfOk, OnOk};
-ghost use Rattle.std.specs.Prelude.{Some};
 ghost use Rattle.check_rules.specs.Typing as types;
-ghost use Rattle.check_rules.specs.declared.entity.Entity.TheVariants as entities;
 ghost use Rattle.check_types.specs.Constants as constants;
 ghost use Rattle.expression_rules.specs.Accesses as accesses;
 ghost use Rattle.resolve_expr.specs.Kept as kept_spec;
@@ -11,7 +9,6 @@ ghost use Rattle.resolve_expr.specs.Expressions as folds;
 ghost use Rattle.resolve_statements.specs.Forms as spec;
 ghost use Rattle.resolve_statements.specs.Statements as statements;
 
-use crate::calls::lost_form;
 use crate::form::{KeptForm, form_with};
 use crate::parts::two_parts;
 use check_rules::{
@@ -19,7 +16,9 @@ use check_rules::{
     string_constant, words_of,
 };
 use check_types::{integer_constant, named_constant, number_in, signed_number};
-use core_tree::{CaseLabel, EffectOp, ForLoop, Op, StatementOp};
+use core_tree::{
+    CaseLabel, EffectOp, ForLoop, Op, Scope, Shape, StatementOp, Variable as PlaceVariable,
+};
 use dice_base::NoMemory;
 use expression_rules::{Env, OpenedRecord, declared_entity, opened_field};
 use pascal_tree::{Access, Arm, Constant};
@@ -106,21 +105,52 @@ fn loop_over(table: &[WrittenType], context: &Context, variable: Variable, down:
     }
 }
 
-fn variable_for_form(
+fn lost_loop(down: bool) -> ForLoop
+    ensures { result ≡ spec.lost_loop down }
+{
+    let variable = PlaceVariable {
+        scope: Scope::Program,
+        offset: 0,
+        by_place: false,
+        frame_words: 0,
+    };
+    ForLoop {
+        variable,
+        first: 0,
+        last: 0,
+        down,
+    }
+}
+
+fn for_form_with(
     alloc: Global,
     context: &Context,
-    variable: Variable,
-    down: bool,
+    looping: ForLoop,
+    shape: Option<Shape>,
     first: KeptNode,
     last: KeptNode,
 ) -> Result<KeptForm, NoMemory>
     ensures { (x y : nodes.Node) → first ≡ nodes.kept_node x → last ≡ nodes.kept_node y
-        → IfOk result (λ f. f ≡ spec.kept_form (spec.for_form_of context.now down x y (Some (entities.VariableOf variable)))) }
+        → IfOk result (λ f. f ≡ spec.kept_form (spec.for_form_with context.now looping shape x y)) }
 {
-    let looping = loop_over(context.env.table.as_slice(), context, variable, down);
     let parts = two_parts(alloc, first.kept, last.kept)?;
-    let op = StatementOp::For(looping);
-    Ok(form_with(context, op, shape_of(variable.typing), parts))
+    Ok(form_with(context, StatementOp::For(looping), shape, parts))
+}
+
+// Also where it has no variable, which the check of the statement refuses.
+fn loop_and_shape(context: &Context, ident: &[u8], down: bool) -> (ForLoop, Option<Shape>)
+    ensures { (x y : nodes.Node) → spec.for_form_with context.now result.0 result.1 x y ≡ spec.for_form context.now ident.now down x y }
+{
+    if opened_field(&context.env, ident).is_some() {
+        return (lost_loop(down), None);
+    }
+    match declared_entity(&context.env, ident) {
+        Some(Entity::VariableOf(variable)) => {
+            let looping = loop_over(context.env.table.as_slice(), context, *variable, down);
+            (looping, shape_of(variable.typing))
+        }
+        _ => (lost_loop(down), None),
+    }
 }
 
 /// A `for` with this control variable between these bounds.
@@ -135,15 +165,8 @@ pub fn for_form(
     ensures { (x y : nodes.Node) → first ≡ nodes.kept_node x → last ≡ nodes.kept_node y
         → IfOk result (λ f. f ≡ spec.kept_form (spec.for_form context.now ident.now down x y)) }
 {
-    if opened_field(&context.env, ident).is_some() {
-        return Ok(lost_form(alloc, context));
-    }
-    match declared_entity(&context.env, ident) {
-        Some(Entity::VariableOf(variable)) => {
-            variable_for_form(alloc, context, *variable, down, first, last)
-        }
-        _ => Ok(lost_form(alloc, context)),
-    }
+    let (looping, shape) = loop_and_shape(context, ident, down);
+    for_form_with(alloc, context, looping, shape, first, last)
 }
 
 fn hold_effect(

@@ -5,14 +5,21 @@
 #![tactic(auto)]
 
 mod assign;
+mod blocks;
 mod calls;
 mod control;
 mod form;
+mod limits;
 mod parts;
+mod place;
+mod sizes;
 mod statements;
 
 pub use assign::{assign_form, target_node, value_form};
+pub use blocks::push_block;
 pub use calls::{Transfer, dispose_form, lost_form, new_form, routine_form, transfer_form};
 pub use control::{case_labels, for_form, hold_effects, open_record};
 pub use form::{KeptForm, form_with};
+pub use limits::{MAX_BLOCK_HOLDS, MAX_BLOCK_TEMPS};
+pub use place::Place;
 pub use statements::own_form;
