@@ -1,0 +1,4 @@
+pub mod Joined
+pub mod OwnRows
+pub mod Viewed
+pub mod Walked

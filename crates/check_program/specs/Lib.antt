@@ -1,3 +1,4 @@
 pub mod BodyRules
 pub mod Layouts
 pub mod Programs
+pub mod Resolution

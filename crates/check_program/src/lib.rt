@@ -6,7 +6,10 @@
 
 mod bodies;
 mod layouts;
+mod lists;
+mod own;
 mod programs;
+mod routines;
 
 pub use bodies::WithBodies;
 pub use layouts::{LayoutFault, layout_fault, stack_charge};

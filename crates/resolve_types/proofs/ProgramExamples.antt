@@ -130,16 +130,16 @@ abbrev block : List RoutineView → Stmt → Block-F BlockView RoutineView
 block routines body =
     record { labels = None; consts = []; types = []; vars = []; routines = routines; body = body }
 
-abbrev declared : BodyRule → Text → List RoutineView → Stmt → RoutineView
-declared rule x routines s = record { ident = x; block = Some (in_block rule end (block routines s)) }
+abbrev declared : BodyRule → ℕ → Text → List RoutineView → Stmt → RoutineView
+declared rule n x routines s = record { name = name n; ident = x; block = Some (in_block rule end (block routines s)) }
 
 abbrev main : BodyRule → Stmt → Stmt → Stmt → Stmt → Routine
 main rule a b c d =
     in_block rule end
     (block
-    (declared rule (codes "outer") (declared rule (codes "inner") [] a ∷ []) b
-    ∷ record { ident = codes "last"; block = None }
-    ∷ declared rule (codes "last") [] c
+    (declared rule 3 (codes "outer") (declared rule 5 (codes "inner") [] a ∷ []) b
+    ∷ record { name = name 9; ident = codes "last"; block = None }
+    ∷ declared rule 10 (codes "last") [] c
     ∷ [])
     d)
     (codes "main") program_entity program_owner

@@ -1,6 +1,6 @@
 -- The plain program that a tree is, where the walk through it ended so: the head of each routine with a block, the routines
 -- in it, and its body in what stands around it. A forward heading has no block, and leaves nothing.
-use Rattle.std.specs.Prelude.{◌≡◌, ℕ, min, ◌==◌, false, List, [], ◌∷◌, ◌++◌, map, find, Option, Some, None, option_map}
+use Rattle.std.specs.Prelude.{◌≡◌, ℕ, min, ◌==◌, if◌then◌else◌, false, List, [], ◌∷◌, ◌++◌, map, find, Option, Some, None, option_map}
 use Rattle.dice_base.specs.declared.name.Name.{Name}
 use Rattle.pascal_tree.specs.declared.stmt.Stmt.{Stmt as Tree}
 use Rattle.pascal_tree.specs.declared.decl.Block.{Block as BlockTree, Block-F, fold-Block}
@@ -139,22 +139,25 @@ abbrev pub BlockView : Type 0
 BlockView = Text → RoutineEntity → Owner → Routine
 
 pub record RoutineView : Type 0 where
+  pub name : Name
   pub ident : Text
   pub block : Option BlockView
 
-abbrev pub with_routine : Owner → Text → BlockView → Option Entity → Routines → Routines
-with_routine owner x b (Some (RoutineOf f)) others = Also (b x f (owner_of f owner)) others
-with_routine owner x b e others = others
+-- a routine is known under the name of the item that has its block
+abbrev pub with_routine : Owner → Name → Text → BlockView → Option Entity → Routines → Routines
+with_routine owner n x b (Some (RoutineOf f)) others =
+    if f.name.0 == n.0 then Also (b x f (owner_of f owner)) others else others
+with_routine owner n x b e others = others
 
-abbrev pub with_item : At → Owner → Text → Option BlockView → Routines → Routines
-with_item end owner x None others = others
-with_item end owner x (Some b) others =
-    with_routine owner x b (entity_in (region_of end owner.name).declared x) others
+abbrev pub with_item : At → Owner → Name → Text → Option BlockView → Routines → Routines
+with_item end owner n x None others = others
+with_item end owner n x (Some b) others =
+    with_routine owner n x b (entity_in (region_of end owner.name).declared x) others
 
 -- the routines with a block that a block declares, in the order of the text
 abbrev pub routines_in : At → Owner → List RoutineView → Routines
 routines_in end owner [] = NoRoutine
-routines_in end owner (r ∷ rs) = with_item end owner r.ident r.block (routines_in end owner rs)
+routines_in end owner (r ∷ rs) = with_item end owner r.name r.ident r.block (routines_in end owner rs)
 
 module _ (body : BodyRule) (end : At) where
   abbrev pub in_block : Block-F BlockView RoutineView → BlockView
@@ -162,7 +165,7 @@ module _ (body : BodyRule) (end : At) where
       Block (head_of end x f) (routines_in end owner b.routines) (body b.body (context_of end owner))
 
   abbrev pub in_routine : Routine-F BlockView RoutineView → RoutineView
-  in_routine r = record { ident = r.heading.ident; block = r.block }
+  in_routine r = record { name = r.name; ident = r.heading.ident; block = r.block }
 
   unfoldable pub block_view : BlockTree → BlockView
   block_view = fold-Block BlockView RoutineView in_block in_routine
