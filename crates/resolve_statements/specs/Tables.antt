@@ -1,7 +1,7 @@
 -- The rows of the table of blocks that statements of a body give, in what stands around them.
 use Rattle.std.specs.Prelude.{ℕ, ◌≡◌, List, [], ◌++◌, map, Option, Some, None, option_map, Result, Ok, Err}
 use Rattle.dice_base.specs.declared.name.Name.{Name}
-use Rattle.pascal_tree.specs.declared.stmt.Stmt.{Stmt}
+use Rattle.pascal_tree.specs.declared.stmt.Stmt.{Stmt, out-Stmt}
 use Rattle.pascal_tree.specs.declared.stmt.StmtKind.{StmtKind}
 use Rattle.pascal_tree.specs.declared.stmt.Arm.{Arm}
 use Rattle.check_rules.specs.declared.fault.CheckEnd.{CheckEnd}
@@ -10,12 +10,13 @@ use Rattle.core_tree.specs.declared.form.CoreForm.{CoreForm}
 use Rattle.core_tree.specs.declared.form.CoreForm.TheVariants as block
 use Rattle.core_tree.specs.declared.form.StatementForm.{StatementForm}
 use Rattle.core_tree.specs.declared.program.CoreBlock.{CoreBlock}
+use Rattle.core_tree.specs.declared.program.CoreLabel.{CoreLabel}
 use Rattle.core_tree.specs.declared.program.LinkEnd.{LinkEnd}
 use Rattle.core_tree.specs.declared.program.LinkEnd.TheVariants as link
-use Rattle.core_tree.specs.Control.{CoreRow, link_flow, own_row, statement_rows, inner_rows, next_in, first_entry, entry_of, entries_of, after_in, around_in}
+use Rattle.core_tree.specs.Control.{CoreRow, link_flow, own_row, statement_rows, inner_rows, next_in, first_entry, entry_of, entries_of, after_in, around_in, Label, label_list, labels_of, labels_in}
 use Rattle.core_tree.specs.Plain.{Form, Heading, Statements, Last, Then}
 use Rattle.core_tree.specs.Shapes.{ShapeTree}
-use Rattle.core_tree.specs.Views.{bare_form, form_over}
+use Rattle.core_tree.specs.Views.{bare_form, form_over, label_row}
 use Rattle.resolve_expr.specs.declared.context.Context.{Context}
 use Rattle.resolve_statements.specs.declared.place.Place.{Place}
 use Rattle.resolve_statements.specs.Bodies.{statements_in, plain_form, statement_of, kind_body, arm_body}
@@ -149,3 +150,27 @@ pub record AreEntries (old new : List Name) (inner : InnerOver) : Type 0 where
 
 abbrev pub inner_in : StmtKind → InnerOver
 inner_in k c trees headings = (kind_body trees headings k).inner c
+
+-- ---- labels, and where their statements begin, whatever stands around them
+
+abbrev pub LabelsOver : Type 0
+LabelsOver = Context → List ShapeTree → (ℕ → Heading) → List Label
+
+-- these are added to those
+pub record AreLabels (old new : List CoreLabel) (labels : LabelsOver) : Type 0 where
+  pub over : (trees : List ShapeTree) (headings : ℕ → Heading) (c : Context)
+      → map label_row new ≡ map label_row old ++ labels c trees headings
+
+-- a statement's own
+abbrev pub own_labels : Stmt → LabelsOver
+own_labels s c trees headings = label_list (out-Stmt s).label (entry_of (statement_of trees headings s c))
+
+-- those of a statement and of all in it
+abbrev pub stmt_labels : Stmt → LabelsOver
+stmt_labels s c trees headings = labels_of (statement_of trees headings s c)
+
+abbrev pub arm_labels : Arm → LabelsOver
+arm_labels a c trees headings = labels_of ((arm_body trees headings a).body c)
+
+abbrev pub labels_over : InnerOver → LabelsOver
+labels_over inner c trees headings = labels_in (inner c trees headings)

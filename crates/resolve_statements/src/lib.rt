@@ -10,6 +10,7 @@ mod calls;
 mod control;
 mod entries;
 mod form;
+mod labels;
 mod limits;
 mod parts;
 mod place;
@@ -23,6 +24,7 @@ pub use calls::{Transfer, dispose_form, lost_form, new_form, routine_form, trans
 pub use control::{case_labels, for_form, hold_effects, open_record};
 pub use entries::entry_of;
 pub use form::{KeptForm, form_with};
+pub use labels::push_labels;
 pub use limits::{MAX_BLOCK_HOLDS, MAX_BLOCK_TEMPS};
 pub use place::Place;
 pub use statements::own_form;
