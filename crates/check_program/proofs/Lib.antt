@@ -1,3 +1,4 @@
+pub mod Built
 pub mod Joined
 pub mod OwnRows
 pub mod Viewed

@@ -1,4 +1,5 @@
 pub mod BodyRules
 pub mod Layouts
+pub mod Parts
 pub mod Programs
 pub mod Resolution

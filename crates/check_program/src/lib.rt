@@ -8,9 +8,11 @@ mod bodies;
 mod layouts;
 mod lists;
 mod own;
+mod parts;
 mod programs;
 mod routines;
 
 pub use bodies::WithBodies;
 pub use layouts::{LayoutFault, layout_fault, stack_charge};
+pub use parts::{Parts, resolve_parts};
 pub use programs::check_program;

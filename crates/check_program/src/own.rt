@@ -68,9 +68,7 @@ fn own_block(
         return Err(CheckEnd::Size(fault));
     }
     let mut entries = Items::new(alloc);
-    let Ok(entry) = entry_of(body) else {
-        return Err(CheckEnd::NoMemory);
-    };
+    let entry = entry_of(body);
     let Ok(()) = entries.push(entry) else {
         return Err(CheckEnd::NoMemory);
     };

@@ -15,6 +15,6 @@ pub returns : goal.returns
 returns c =
     let trees = trees_of c.args.source.now.shapes.entries in
     let row = c.args.row.now in
-    own_made trees row c.args.body.now c.in-Ok.form c.in-Ok-entry_of.entry c.push.new.self (λ h. c.in-Ok.ensures h)
-    c.in-Ok-entry_of.ensures (c.in-Ok-push.ensures.ok ∙ ap (λ ns. ns ++ c.in-Ok-entry_of.entry ∷ []) c.new-entries.ensures)
+    own_made trees row c.args.body.now c.in-Ok.form c.entry_of-entry.result c.push.new.self (λ h. c.in-Ok.ensures h)
+    c.entry_of-entry.ensures (c.in-Ok-push.ensures.ok ∙ ap (λ ns. ns ++ c.entry_of-entry.result ∷ []) c.new-entries.ensures)
     (sym c.in_default-own_fault.is ∙ c.own_fault.ensures (own_form trees c.in-Ok.form (head_over trees row) (c.in-Ok.ensures no_heading)))
