@@ -1,7 +1,8 @@
-//! Whole programs, judged (ISO 7185:1990, 6.2 and 6.10).
+//! Whole programs, judged and resolved (ISO 7185:1990, 6.2 and 6.10).
 //!
-//! In `specs/`: what comes of the body of a block (`BodyRules`), programs (`Programs`), and the sizes of their layouts
-//! (`Layouts`).
+//! In `specs/`: what comes of the body of a block (`BodyRules`), programs (`Programs`), the sizes of their layouts
+//! (`Layouts`), the routines and blocks that the walk through a program adds (`Resolution`), and what a program is resolved
+//! to, or why it is not (`Parts`).
 #![tactic(auto)]
 
 mod bodies;
